@@ -1,0 +1,31 @@
+use Rattle.std.proofs.Common.{◌∙◌, ap, length, take, List, ◌++◌, ◌∷◌, [], Some}
+use Rattle.std.specs.List.{slice_set}
+use Rattle.std.proofs.Math.Seq.{take-append_seam}
+use Rattle.feature_tree.specs.declared.group.Group.{Group}
+use Rattle.feature_tree.specs.declared.feature.Feature.{Feature}
+use Rattle.feature_tree.specs.Growing.{new_feature, with_last_child, changed_at}
+use Rattle.feature_tree.proofs.Changes.{slice_set-same, slice_set-changed_at, changed_at-append}
+use Rattle.feature_tree.proofs.Trees.{groups_of-within}
+use Rattle.feature_tree.proofs.tree.push_child.Goals as goal
+
+pub returns-in-Err-clause-err : goal.returns-in-Err-clause-err
+returns-in-Err-clause-err c =
+    let feature : Feature = c.get_mut-feature.result.now in
+    let changed : List Group → Feature = λ groups. record feature { groups = groups } in
+    c.truncate.ensures
+    ∙ ap (λ groups. take c.len-count.result (slice_set c.push_feature.new.features c.args.parent (changed groups))) (c.in-Err.ensures.err)
+    ∙ ap (take c.len-count.result) (slice_set-same c.push_feature.new.features c.args.parent feature c.get_mut-feature.ensures.value)
+    ∙ ap (λ features. take c.len-count.result features) (c.in_ok-push_feature.ensures.ok)
+    ∙ ap (λ count. take count (c.args.features.now ++ new_feature c.args.name (Some c.args.parent) ∷ [])) c.len-count.ensures
+    ∙ take-append_seam c.args.features.now (new_feature c.args.name (Some c.args.parent) ∷ [])
+
+pub returns-clause-ok : goal.returns-clause-ok
+returns-clause-ok c =
+    let feature : Feature = c.get_mut-feature.result.now in
+    let changed : List Group → Feature = λ groups. record feature { groups = groups } in
+    let within = groups_of-within c.args.features.now c.args.parent c.requires.group in
+    ap (λ groups. slice_set c.push_feature.new.features c.args.parent (changed groups)) (c.in_default.ensures.ok)
+    ∙ slice_set-changed_at (with_last_child c.len-count.result) c.push_feature.new.features c.args.parent feature c.get_mut-feature.ensures.value
+    ∙ ap (λ features. changed_at (with_last_child c.len-count.result) features c.args.parent) (c.in_ok-push_feature.ensures.ok)
+    ∙ ap (λ count. changed_at (with_last_child count) (c.args.features.now ++ new_feature c.args.name (Some c.args.parent) ∷ []) c.args.parent) c.len-count.ensures
+    ∙ changed_at-append (with_last_child (length c.args.features.now)) c.args.features.now (new_feature c.args.name (Some c.args.parent) ∷ []) c.args.parent within

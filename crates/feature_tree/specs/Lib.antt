@@ -1,0 +1,12 @@
+pub mod Consistent
+pub mod Decided
+pub mod Example
+pub mod Folds
+pub mod FeatureModel
+pub mod Growing
+pub mod Names
+pub mod Product
+pub mod Truth
+pub mod WellFormed
+pub mod Within
+pub mod formers

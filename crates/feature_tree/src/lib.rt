@@ -1,0 +1,31 @@
+//! Feature models as UVL has them: a tree of features in groups, with formulas across it.
+//!
+//! A `Model` is made of a `Tree`, which grows feature by feature in the order of a file, and of its constraints. Its one
+//! question is `Model::is_product`; that of a `Formula` is `holds`. A layer above may rely on it that every `Model` is
+//! well formed, that a set is a product exactly where `is_product` says so, and that the tests of `specs/Decided.antt`,
+//! which compute, agree with the definitions of product and consistency (`product_is_decided`, `consistent_is_decided`).
+#![tactic(auto)]
+
+mod feature;
+mod formula;
+mod group;
+mod laws;
+mod model;
+mod row;
+mod text;
+mod tree;
+
+pub use feature::{Feature, Features};
+pub use formula::{Formula, Formulas, all_hold};
+pub use group::{Group, GroupKind, Groups};
+pub use laws::{
+    consistent_is_decided, consistent_is_monotone, product_is_decided, truth_rests_on_names,
+};
+pub use model::Model;
+pub use row::{Numbers, Row};
+pub use sqlite_items::Boxed;
+pub use text::Text;
+pub use tree::Tree;
+
+#[cfg(test)]
+mod tests;
