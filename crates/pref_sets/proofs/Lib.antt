@@ -1,0 +1,5 @@
+pub mod BestLaws
+pub mod GreedyLaws
+pub mod PreferredLaws
+pub mod TestLaws
+pub mod TrimLaws

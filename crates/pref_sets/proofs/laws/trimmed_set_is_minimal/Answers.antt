@@ -1,0 +1,12 @@
+use Rattle.pref_sets.proofs.PreferredLaws.{IsTrimmed-preferred}
+use Rattle.pref_sets.proofs.BestLaws.{IsTrimmed-holds, IsTrimmed-minimal}
+use Rattle.pref_sets.proofs.laws.trimmed_set_is_minimal.Goals as goal
+
+pub returns-clause-holds : goal.returns-clause-holds
+returns-clause-holds g c = λ items left d h k. IsTrimmed-holds g.P.Growing.holds g.P.Growing.more items left d h k
+
+pub returns-clause-minimal : goal.returns-clause-minimal
+returns-clause-minimal g c = λ items left d k. IsTrimmed-minimal g.P.Growing.holds g.P.Growing.more items left d k
+
+pub returns-clause-preferred : goal.returns-clause-preferred
+returns-clause-preferred g c = λ items left d k. IsTrimmed-preferred g.P.Growing.holds g.P.Growing.more items left d k

@@ -1,0 +1,6 @@
+pub mod Examples
+pub mod Greedy
+pub mod Kept
+pub mod Preferred
+pub mod Trimmed
+pub mod TrimmedBehind

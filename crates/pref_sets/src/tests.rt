@@ -1,0 +1,120 @@
+//! A test of sets that holds a `&mut`, as a caller's may, and counts how often it is asked.
+ghost use Rattle.std.specs.Prelude.{◌≡◌, ◌↔◌, ◌⊎◌, ◌≤◌, All, Contains, IsTrue, IfOk};
+ghost use Rattle.std.proofs.Common.{refl, sym, ◌∙◌, inl, inr, ⊎_elim};
+ghost use Rattle.std.proofs.lemmas.List.Elements.{All-weaker};
+ghost use Rattle.pref_sets.specs.Preferred.{IsDistinct};
+
+use crate::numbers::Numbers;
+use crate::trimming::{MonotoneTest, trim};
+use std::alloc::{AllocError, Global};
+use std::process::Abort;
+
+/// Whether the set has all of `first`, or all of `second`.
+#[derive(Drop)]
+struct EitherOf<'a> {
+    first: &'a [u32],
+    second: &'a [u32],
+    asks: &'a mut u64,
+}
+
+impl MonotoneTest for EitherOf<'_> {
+    ghost yes = { λ test set. All (Contains set) test.first.now ⊎ All (Contains set) test.second.now };
+
+    ghost stays = { λ before after. after.asks.ghost_name ≡ before.asks.ghost_name };
+
+    ghost monotone = { λ test a b more holds.
+        ⊎_elim
+        (λ (first : All (Contains a) test.first.now). inl (All-weaker (Contains a) (Contains b) more test.first.now first))
+        (λ (second : All (Contains a) test.second.now). inr (All-weaker (Contains a) (Contains b) more test.second.now second))
+        holds };
+
+    ghost reflexive = { λ test. refl };
+
+    ghost transitive = { λ a b c first second. second ∙ first };
+
+    fn holds(&mut self, set: &[u32]) -> Result<bool, AllocError> {
+        *self.asks = self.asks.saturating_add(1);
+        Ok(has_all(self.first, set) || has_all(self.second, set))
+    }
+}
+
+fn has_all(needed: &[u32], set: &[u32]) -> bool
+    ensures { IsTrue result ↔ All (Contains set.now) needed.now }
+{
+    for item in needed {
+        if !set.contains(item) {
+            return false;
+        }
+    }
+    true
+}
+
+/// The numbers 1, 2, .., n.
+fn numbers_to(alloc: Global, n: u32) -> Result<Vec<u32>, AllocError>
+    requires { n ≤ 4096 }
+    ensures { IfOk result (λ numbers. IsDistinct numbers.items) }
+{
+    let mut numbers = Vec::new(alloc);
+    for i in 0..n {
+        numbers.push(i + 1)?;
+    }
+    Ok(numbers)
+}
+
+/// Trims 1, .., n, among which all of `first` are, by the test, and compares what stays, and the number of asks with its bound.
+fn check_trim(
+    rt: &impl Abort,
+    alloc: Global,
+    n: u32,
+    first: &[u32],
+    second: &[u32],
+    stays: &[u32],
+    most: u64,
+) -> Result<(), AllocError>
+    requires { n ≤ 4096 }
+{
+    let items = numbers_to(alloc, n)?;
+    let numbers = items.as_slice();
+    if !has_all(first, numbers) {
+        return Err(AllocError);
+    }
+    let mut asks = 0u64;
+    let mut test = EitherOf {
+        first,
+        second,
+        asks: &mut asks,
+    };
+    let left = trim(alloc, &mut test, numbers)?;
+    assert!(rt; left.as_slice() == stays, "of {n}");
+    assert!(rt; asks <= most, "{asks} asks of {n}");
+    Ok(())
+}
+
+#[test]
+fn trims_as_by_hand(rt: HostRuntime) -> Result<(), AllocError> {
+    check_trim(&rt, rt.alloc(), 3, &[1], &[2, 3], &[1], 6)?;
+    check_trim(&rt, rt.alloc(), 3, &[3], &[3], &[3], 6)?;
+    check_trim(&rt, rt.alloc(), 3, &[], &[2], &[], 1)?;
+    check_trim(&rt, rt.alloc(), 4, &[1, 3], &[2, 4], &[1, 3], 8)?;
+    // Three of 1,024 stay: twice 3 * (1 + log2(1024 / 3)) is 57, and one by one it would be 1,024.
+    check_trim(
+        &rt,
+        rt.alloc(),
+        1024,
+        &[10, 500, 1000],
+        &[10, 500, 1000],
+        &[10, 500, 1000],
+        57,
+    )
+}
+
+#[test]
+fn lists_grow(rt: HostRuntime) -> Result<(), AllocError> {
+    let mut numbers = Numbers::new(rt.alloc());
+    assert!(rt; numbers.is_empty());
+    numbers.push(7)?;
+    numbers.push(9)?;
+    assert!(rt; numbers.len() == 2);
+    assert!(rt; *numbers.get(1) == 9);
+    Ok(())
+}
