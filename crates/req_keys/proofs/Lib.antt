@@ -1,0 +1,7 @@
+pub mod HashLaws
+pub mod MemberLaws
+pub mod MergeLaws
+pub mod OrderLaws
+pub mod PositionsLaws
+pub mod SearchLaws
+pub mod WordLaws
