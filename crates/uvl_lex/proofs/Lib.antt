@@ -1,0 +1,10 @@
+pub mod CoverLemmas
+pub mod CursorLemmas
+pub mod LineLemmas
+pub mod MarkLemmas
+pub mod PartLemmas
+pub mod PieceLemmas
+pub mod ReadLemmas
+pub mod ScanLemmas
+pub mod TextLemmas
+pub mod WordLemmas

@@ -1,0 +1,31 @@
+-- What a reader that has read a part of the text makes of the pieces that follow.
+use Rattle.std.specs.Prelude.{ℕ, List, [], ◌∷◌, ◌++◌, Option, Some, None}
+use Rattle.uvl_lex.specs.declared.reader.Reader.{Reader}
+use Rattle.uvl_lex.specs.declared.token.Line.{Line}
+use Rattle.uvl_lex.specs.declared.token.Token.{Token}
+use Rattle.uvl_lex.specs.Pieces.{Part}
+use Rattle.uvl_lex.specs.Reading.{Answer, Run, run_of, on_ok, tokens_of, all_lines}
+
+-- the run that goes on with a line that has begun
+abbrev pub resumed : Option Line → Run → Run
+resumed None run = run
+resumed (Some line) run =
+    (Some (record { number = line.number; indent = line.indent; tokens = line.tokens ++ tokens_of run.0 }), run.1)
+
+-- the lines that are done, then those of the run that goes on with the current one
+abbrev pub lines_with : List Line → Option Line → Run → List Line
+lines_with done current run = done ++ all_lines (resumed current run)
+
+-- what the pieces that follow make of the reader's state
+abbrev pub answer : Reader → List Part → Answer (List Line)
+answer reader ps = on_ok (lines_with reader.lines reader.current) (run_of reader.open_brackets ps)
+
+-- the lines with one that has ended
+abbrev pub ended : List Line → Option Line → List Line
+ended done None = done
+ended done (Some line) = done ++ line ∷ []
+
+-- the line with one more token, or the line that the token begins
+abbrev pub grown : Option Line → Token → ℕ → Line
+grown None token column = record { number = token.line; indent = column; tokens = token ∷ [] }
+grown (Some line) token column = record { number = line.number; indent = line.indent; tokens = line.tokens ++ token ∷ [] }

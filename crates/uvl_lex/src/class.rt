@@ -1,0 +1,44 @@
+//! Classes of characters.
+ghost use Rattle.std.specs.Prelude.{◌≡◌};
+ghost use Rattle.uvl_lex.specs.Classes.{in_class};
+ghost use Rattle.uvl_lex.specs.Pieces.{starts_name, is_in_name};
+
+/// A class of characters.
+#[derive(Clone, Copy)]
+pub(crate) enum Class {
+    /// All but the line feed.
+    InLine,
+    InName,
+    Digit,
+    /// What may stand before the closing quote.
+    Inside(char),
+    /// What may stand in a name between double quotes.
+    Plain,
+}
+
+impl Class {
+    #[inline]
+    pub fn contains(self, c: char) -> bool
+        ensures { result ≡ in_class self c }
+    {
+        match self {
+            Class::InLine => c != '\n',
+            Class::InName => is_in_name(c),
+            Class::Digit => c.is_ascii_digit(),
+            Class::Inside(mark) => c != mark && c != '\n' && c != '\r',
+            Class::Plain => c != '"' && c != '.' && c != '\n' && c != '\r',
+        }
+    }
+}
+
+pub(crate) fn starts_name(c: char) -> bool
+    ensures { result ≡ starts_name c }
+{
+    unicode_ident::is_xid_start(c) || c == '_'
+}
+
+fn is_in_name(c: char) -> bool
+    ensures { result ≡ is_in_name c }
+{
+    unicode_ident::is_xid_continue(c) || matches!(c, '#' | '%' | '?' | '\'' | '\\' | '§')
+}

@@ -1,0 +1,134 @@
+//! Reserved words and marks.
+ghost use Rattle.std.specs.Prelude.{◌≡◌, IfSome};
+ghost use Rattle.uvl_lex.specs.Words.{keyword_of, spelling};
+ghost use Rattle.uvl_lex.specs.Classes.{mark_of, less_of, equals_of, one_or_two, single_of, IsWidth};
+
+use crate::token::{Keyword, Mark};
+
+const KEYWORDS: [Keyword; 16] = [
+    Keyword::Namespace,
+    Keyword::Include,
+    Keyword::Imports,
+    Keyword::Features,
+    Keyword::Constraints,
+    Keyword::Mandatory,
+    Keyword::Optional,
+    Keyword::Or,
+    Keyword::Alternative,
+    Keyword::Cardinality,
+    Keyword::Boolean,
+    Keyword::Integer,
+    Keyword::Real,
+    Keyword::String,
+    Keyword::True,
+    Keyword::False,
+];
+
+fn spelling(keyword: Keyword) -> &'static [u8]
+    ensures { result.now ≡ spelling keyword }
+{
+    match keyword {
+        Keyword::Namespace => b"namespace",
+        Keyword::Include => b"include",
+        Keyword::Imports => b"imports",
+        Keyword::Features => b"features",
+        Keyword::Constraints => b"constraints",
+        Keyword::Mandatory => b"mandatory",
+        Keyword::Optional => b"optional",
+        Keyword::Or => b"or",
+        Keyword::Alternative => b"alternative",
+        Keyword::Cardinality => b"cardinality",
+        Keyword::Boolean => b"Boolean",
+        Keyword::Integer => b"Integer",
+        Keyword::Real => b"Real",
+        Keyword::String => b"String",
+        Keyword::True => b"true",
+        Keyword::False => b"false",
+    }
+}
+
+/// The keyword that the bytes spell.
+pub(crate) fn keyword_of(text: &[u8]) -> Option<Keyword>
+    ensures { result ≡ keyword_of text.now }
+{
+    for keyword in KEYWORDS {
+        if spelling(keyword) == text {
+            return Some(keyword);
+        }
+    }
+    None
+}
+
+/// The mark that begins with the character, the next two at hand, and how many of them it takes.
+pub(crate) fn mark_of(c: char, second: char, third: char) -> Option<(Mark, usize)>
+    ensures value { result ≡ mark_of c second third }
+    ensures width { IfSome result (λ r. IsWidth r.1) }
+{
+    match c {
+        '<' => Some(less_of(second, third)),
+        '=' => Some(equals_of(second)),
+        '!' => Some(one_or_two(Mark::Bang, second, '=', Mark::Unequal)),
+        '>' => Some(one_or_two(Mark::Greater, second, '=', Mark::AtLeast)),
+        '.' => Some(one_or_two(Mark::Dot, second, '.', Mark::Dots)),
+        _ => Some((single_of(c)?, 1)),
+    }
+}
+
+fn less_of(second: char, third: char) -> (Mark, usize)
+    ensures value { result ≡ less_of second third }
+    ensures width { IsWidth result.1 }
+{
+    if second != '=' {
+        (Mark::Less, 1)
+    } else if third == '>' {
+        (Mark::Iff, 3)
+    } else {
+        (Mark::AtMost, 2)
+    }
+}
+
+fn equals_of(second: char) -> (Mark, usize)
+    ensures value { result ≡ equals_of second }
+    ensures width { IsWidth result.1 }
+{
+    match second {
+        '>' => (Mark::Then, 2),
+        '=' => (Mark::Equal, 2),
+        _ => (Mark::Assign, 1),
+    }
+}
+
+fn one_or_two(one: Mark, second: char, follows: char, two: Mark) -> (Mark, usize)
+    ensures value { result ≡ one_or_two one second follows two }
+    ensures width { IsWidth result.1 }
+{
+    if second == follows {
+        (two, 2)
+    } else {
+        (one, 1)
+    }
+}
+
+/// The mark of one character that begins no longer mark.
+fn single_of(c: char) -> Option<Mark>
+    ensures { result ≡ single_of c }
+{
+    match c {
+        '&' => Some(Mark::Amp),
+        '|' => Some(Mark::Bar),
+        '(' => Some(Mark::OpenRound),
+        ')' => Some(Mark::CloseRound),
+        '[' => Some(Mark::OpenSquare),
+        ']' => Some(Mark::CloseSquare),
+        '{' => Some(Mark::OpenCurly),
+        '}' => Some(Mark::CloseCurly),
+        ',' => Some(Mark::Comma),
+        '*' => Some(Mark::Star),
+        '+' => Some(Mark::Plus),
+        '-' => Some(Mark::Minus),
+        '/' => Some(Mark::Slash),
+        ':' => Some(Mark::Colon),
+        ';' => Some(Mark::Semicolon),
+        _ => None,
+    }
+}
