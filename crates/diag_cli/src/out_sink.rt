@@ -1,0 +1,41 @@
+use diag_base::{PutFailed, Sink};
+use std::io::Write;
+
+/// A sink over a writer, as standard output. It tells no bytes; only its count of faults is known.
+#[derive(Drop)]
+pub struct OutSink<W: Write> {
+    out: W,
+    faults: u64,
+}
+
+impl<W: Write> OutSink<W> {
+    pub fn new(out: W) -> OutSink<W> {
+        OutSink { out, faults: 0 }
+    }
+}
+
+impl<W: Write> Sink for OutSink<W> {
+    ghost use Rattle.std.specs.Prelude.{None};
+
+    ghost written = { λ _. None };
+
+    ghost faults = { λ sink. sink.faults };
+
+    // A write that takes nothing of a piece that isn't empty is a fault.
+    fn put(&mut self, bytes: &[u8]) -> Result<(), PutFailed> {
+        let mut rest = bytes;
+        'writes: while !rest.is_empty() {
+            match self.out.write(rest) {
+                Ok(count) if 0 < count => {
+                    let (_, after) = rest.split_at(count);
+                    rest = after;
+                }
+                _ => {
+                    self.faults = self.faults.saturating_add(1);
+                    return Err(PutFailed);
+                }
+            }
+        }
+        Ok(())
+    }
+}
