@@ -92,7 +92,7 @@ pub IsTrimmed-holds : (P : List ℕ → Type 0) → IsMonotone P → (items left
 IsTrimmed-holds P more items left d h g = IsTrimmedBehind-keeps P more items [] left (behind-from_IsTrimmed P items left d g) h
 
 -- whether a list has an item is decided
-contains_cases : (xs : List ℕ) (x : ℕ) → Contains xs x ⊎ (Contains xs x → ⊥)
+pub contains_cases : (xs : List ℕ) (x : ℕ) → Contains xs x ⊎ (Contains xs x → ⊥)
 contains_cases [] x = inr (contains_none x)
 contains_cases (y ∷ ys) x =
     ⊎_elim

@@ -3,3 +3,4 @@ pub mod GreedyLaws
 pub mod PreferredLaws
 pub mod TestLaws
 pub mod TrimLaws
+pub mod OnlyLaws

@@ -1,7 +1,7 @@
 //! What the two greedy sets are, in the words of sets.
 ghost use Rattle.std.specs.Prelude.{◌≡◌, List, [], ℕ, Bool, Contains, IsTrue};
 ghost use Rattle.pref_sets.specs.Kept.{IsKept, kept_of};
-ghost use Rattle.pref_sets.specs.Preferred.{IsWithin, IsDistinct, IsPreferredTo, IsPreferredConflictTo};
+ghost use Rattle.pref_sets.specs.Preferred.{AgreeOn, IsWithin, IsDistinct, IsPreferredTo, IsPreferredConflictTo};
 ghost use Rattle.pref_sets.specs.Trimmed.{IsTrimmed, trimmed_of};
 
 use std::marker::Brand;
@@ -66,19 +66,21 @@ pub fn trimmed_set_of_a_test()
 {}
 
 /// The kept set has the property, and no item can be added to it: a set with the property that has all of it has no
-/// other of the items. No set with the property is lexicographically preferred to it: it is the preferred relaxation
-/// (Junker 2004).
+/// other of the items. No set with the property is lexicographically preferred to it, and it alone has that: it is the
+/// preferred relaxation (Junker 2004).
 pub fn kept_set_is_maximal<P: Relaxable>()
     ensures holds { (items kept : List ℕ) → IsKept P.holds items kept → P.holds kept }
     ensures preferred { (items kept : List ℕ) → IsKept P.holds items kept → (other : List ℕ) → P.holds other → ¬ IsPreferredTo items other kept }
+    ensures only { (items kept : List ℕ) → IsKept P.holds items kept → (other : List ℕ) → P.holds other → ((third : List ℕ) → P.holds third → ¬ IsPreferredTo items third other) → AgreeOn items other kept }
     ensures maximal { (items kept : List ℕ) → IsKept P.holds items kept → (other : List ℕ) → P.holds other → IsWithin kept other → (item : ℕ) → Contains items item → Contains other item → Contains kept item }
 {}
 
 /// The trimmed set of items with the property has it, and nothing can leave: a part of it with the property is all
-/// of it. No other of the items with the property are preferred to it as a conflict: it is the preferred conflict
-/// (Junker 2004).
+/// of it. No other of the items with the property are preferred to it as a conflict, and it alone has that: it is the
+/// preferred conflict (Junker 2004).
 pub fn trimmed_set_is_minimal<P: Growing>()
     ensures holds { (items left : List ℕ) → IsDistinct items → P.holds items → IsTrimmed P.holds items left → P.holds left }
     ensures preferred { (items left : List ℕ) → IsDistinct items → IsTrimmed P.holds items left → (other : List ℕ) → P.holds other → IsWithin other items → ¬ IsPreferredConflictTo items other left }
+    ensures only { (items left : List ℕ) → IsDistinct items → P.holds items → IsTrimmed P.holds items left → (other : List ℕ) → P.holds other → IsWithin other items → ((third : List ℕ) → P.holds third → IsWithin third items → ¬ IsPreferredConflictTo items third other) → AgreeOn items other left }
     ensures minimal { (items left : List ℕ) → IsDistinct items → IsTrimmed P.holds items left → (other : List ℕ) → IsWithin other left → P.holds other → IsWithin left other }
 {}

@@ -28,7 +28,7 @@ pub trait MonotoneTest {
 }
 
 /// The trimmed set of the items: from the last item to the first, an item leaves where the test still holds of the
-/// rest. Of m items of which r stay it asks on the order of r * (1 + log2(m / r)) times.
+/// rest. It is meant to ask on the order of r * (1 + log2(m / r)) times for m items of which r stay; a test shows that.
 pub fn trim<T: MonotoneTest>(
     alloc: Global,
     test: &mut T,

@@ -1,5 +1,6 @@
 use Rattle.pref_sets.proofs.PreferredLaws.{IsTrimmed-preferred}
 use Rattle.pref_sets.proofs.BestLaws.{IsTrimmed-holds, IsTrimmed-minimal}
+use Rattle.pref_sets.proofs.OnlyLaws.{IsTrimmed-only}
 use Rattle.pref_sets.proofs.laws.trimmed_set_is_minimal.Goals as goal
 
 pub returns-clause-holds : goal.returns-clause-holds
@@ -10,3 +11,6 @@ returns-clause-minimal g c = λ items left d k. IsTrimmed-minimal g.P.Growing.ho
 
 pub returns-clause-preferred : goal.returns-clause-preferred
 returns-clause-preferred g c = λ items left d k. IsTrimmed-preferred g.P.Growing.holds g.P.Growing.more items left d k
+
+pub returns-clause-only : goal.returns-clause-only
+returns-clause-only g c = λ items left d h k. IsTrimmed-only g.P.Growing.holds g.P.Growing.more items left d h k
