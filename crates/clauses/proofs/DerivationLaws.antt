@@ -1,0 +1,93 @@
+-- What a search learns follows by reverse unit propagation.
+use Rattle.std.proofs.Common.{◌≡◌, ◌∙◌, refl, sym, ap, subst, ⊎_elim, Some, ℕ, Bool, true, false, cond, List, [], ◌∷◌, ◌++◌, map, reverse, fold, append_assoc}
+use Rattle.std.specs.Prelude.{Contains}
+use Rattle.std.proofs.lemmas.Bool.{false≢true}
+use Rattle.std.proofs.lemmas.List.{append-nil}
+use Rattle.std.proofs.lemmas.List.Elements.{Contains-append_cases, Contains-push}
+use Rattle.pref_sets.specs.Greedy.{set_after}
+use Rattle.pref_sets.specs.Trimmed.{trimmed_of, without_item}
+use Rattle.clauses.specs.declared.literal.Lit.{Lit}
+use Rattle.clauses.specs.Clause.{negation, negative_of, unit_of, is_satisfied, are_satisfied}
+use Rattle.clauses.specs.Closure.{clash, follows, AreDerived, IsDerivation}
+use Rattle.clauses.specs.Search.{Unsat, Standing, Turn, GoesOn, Ends, all_false, some_true, clashing, cut_after, turn, answer_within, standing_after, start}
+use Rattle.clauses.proofs.Members.{all_at, all_from, first_or_later, none}
+use Rattle.clauses.proofs.ClosureLaws.{follows-satisfied}
+use Rattle.clauses.proofs.TurnLaws.{IsTurn, answers, decides, refutes, gives_up, learns, turn_is, ended, reached}
+
+step_holds : (test : List ℕ → Bool) (b : Bool) (next set : List ℕ) → test next ≡ b → test set ≡ true → test (cond b next set) ≡ true
+step_holds test true next set e h = e
+step_holds test false next set e h = h
+
+fold_holds : (test : List ℕ → Bool) (items set : List ℕ) → test set ≡ true → test (fold (set_after test without_item) set items) ≡ true
+fold_holds test [] set h = h
+fold_holds test (x ∷ xs) set h = fold_holds test xs (set_after test without_item set x) (step_holds test (test (without_item set x)) (without_item set x) set refl h)
+
+-- the trimmed set passes the test that all items pass
+pub trimmed-holds : (test : List ℕ → Bool) (items : List ℕ) → test items ≡ true → test (trimmed_of test items) ≡ true
+trimmed-holds test items h = fold_holds test (reverse items) items h
+
+negations : (vars : List ℕ) → map (λ l. unit_of (negation l)) (some_true vars) ≡ all_false vars
+negations [] = refl
+negations (x ∷ xs) = ap (λ rest. unit_of (negative_of x) ∷ rest) (negations xs)
+
+pub learned-follows : (clauses : List (List Lit)) (vars : List ℕ) → clash (clauses ++ all_false vars) ≡ true → follows clauses (some_true vars) ≡ true
+learned-follows clauses vars e = ap (λ units. clash (clauses ++ units)) (negations vars) ∙ e
+
+pub derived-push : (clauses lines : List (List Lit)) (line : List Lit) → AreDerived clauses lines → follows (clauses ++ lines) line ≡ true → AreDerived clauses (lines ++ line ∷ [])
+derived-push clauses [] line d f = (subst (λ c. follows c line ≡ true) (append-nil clauses) f, tt)
+derived-push clauses (l ∷ lines) line d f = (d.0, derived-push (clauses ++ l ∷ []) lines line d.1 (subst (λ c. follows c line ≡ true) (sym (append_assoc clauses (l ∷ []) lines)) f))
+
+module _ (clauses : List (List Lit)) (v a : ℕ) where
+  kept : (s t : Standing) (r : Turn) → AreDerived clauses s.learned → r ≡ GoesOn t → IsTurn clauses v a s r → AreDerived clauses t.learned
+  kept s t r d e (answers c o q) = absurd (cc)
+  kept s t r d e (decides x xs c o q) = let same : (record s { decisions = s.decisions ++ x ∷ [] }) ≡ t = cc in subst (λ u. AreDerived clauses u.learned) same d
+  kept s t r d e (refutes c o q) = absurd (cc)
+  kept s t r d e (gives_up c x xs o n q) = absurd (cc)
+  kept s t r d e (learns c x xs o n q) =
+      let trimmed = clashing (clauses ++ s.learned) s.decisions in
+      let next : Standing = record { learned = s.learned ++ some_true trimmed ∷ []; decisions = cut_after s.decisions (reverse trimmed) } in
+      let same : next ≡ t = cc in
+      subst (λ u. AreDerived clauses u.learned) same
+      (derived-push clauses s.learned (some_true trimmed) d
+      (learned-follows (clauses ++ s.learned) trimmed (trimmed-holds (λ set. clash ((clauses ++ s.learned) ++ all_false set)) s.decisions c)))
+
+  turns_keep : (s t : Standing) → AreDerived clauses s.learned → turn clauses v a s ≡ GoesOn t → AreDerived clauses t.learned
+  turns_keep s t d e = kept s t (turn clauses v a s) d e (turn_is clauses v a s)
+
+  pub reached-derived : (n : ℕ) (last : Standing) → standing_after n clauses v a start ≡ Some last → AreDerived clauses last.learned
+  reached-derived n last e = reached clauses v a (λ s. AreDerived clauses s.learned) turns_keep last n start tt e
+
+  refuted : (s : Standing) (lines : List (List Lit)) (r : Turn) → AreDerived clauses s.learned → r ≡ Ends (Unsat lines) → IsTurn clauses v a s r → IsDerivation clauses lines
+  refuted s lines r d e (answers c o q) = absurd (cc)
+  refuted s lines r d e (decides x xs c o q) = absurd (cc)
+  refuted s lines r d e (refutes c o q) =
+      let same : s.learned ++ [] ∷ [] ≡ lines = cc in
+      subst (IsDerivation clauses) same (derived-push clauses s.learned [] d (subst (λ vars. clash ((clauses ++ s.learned) ++ all_false vars) ≡ true) o c), (s.learned, refl))
+  refuted s lines r d e (gives_up c x xs o n q) = absurd (cc)
+  refuted s lines r d e (learns c x xs o n q) = absurd (cc)
+
+  pub unsat-derivation : (n : ℕ) (lines : List (List Lit)) → answer_within n clauses v a start ≡ Some (Unsat lines) → IsDerivation clauses lines
+  unsat-derivation n lines e =
+      let at = ended clauses v a (λ s. AreDerived clauses s.learned) turns_keep (Unsat lines) n start tt e in
+      refuted at.0 lines (turn clauses v a at.0) at.1 at.2 (turn_is clauses v a at.0)
+
+-- an assignment of the clauses satisfies each line of a derivation, so there is none where one line is empty
+pub derived-satisfied : (values : List Bool) (clauses lines : List (List Lit)) → are_satisfied values clauses ≡ true → AreDerived clauses lines → (line : List Lit) → Contains lines line → is_satisfied values line ≡ true
+derived-satisfied values clauses [] h d line m = absurd (none line m)
+derived-satisfied values clauses (l ∷ lines) h d line m =
+    let here : is_satisfied values l ≡ true = follows-satisfied values clauses l h d.0 in
+    ⊎_elim
+    (λ (e : l ≡ line). subst (λ c. is_satisfied values c ≡ true) e here)
+    (λ (r : Contains lines line).
+    derived-satisfied values (clauses ++ l ∷ [])
+    lines
+    (all_from (is_satisfied values) (clauses ++ l ∷ []) (λ c n.
+    ⊎_elim
+    (λ (old : Contains clauses c). all_at (is_satisfied values) clauses c h old)
+    (λ (new : Contains (l ∷ []) c). ⊎_elim (λ (e : l ≡ c). subst (λ k. is_satisfied values k ≡ true) e here) (λ (no : Contains [] c). absurd (none c no)) (first_or_later l [] c new))
+    (Contains-append_cases clauses (l ∷ []) c n)))
+    d.1 line r)
+    (first_or_later l lines line m)
+
+pub derivation-unsatisfiable : (values : List Bool) (clauses lines : List (List Lit)) → IsDerivation clauses lines → are_satisfied values clauses ≡ true → ⊥
+derivation-unsatisfiable values clauses lines d h = false≢true (derived-satisfied values clauses lines h d.0 [] (subst (λ ls. Contains ls []) (sym d.1.1) (Contains-push d.1.0 [])))

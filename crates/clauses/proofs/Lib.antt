@@ -1,0 +1,14 @@
+pub mod Members
+pub mod Literals
+pub mod ClosureLaws
+pub mod TurnLaws
+pub mod SatLaws
+pub mod DerivationLaws
+pub mod Counting
+pub mod LeastLaws
+pub mod EnoughLaws
+pub mod TrimmedLaws
+pub mod StandingLaws
+pub mod Subsets
+pub mod BoundLaws
+mod SatisfiedLaws

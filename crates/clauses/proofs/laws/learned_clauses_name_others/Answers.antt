@@ -1,0 +1,15 @@
+use Rattle.std.proofs.Common.{arith}
+use Rattle.clauses.specs.Problem.{clauses_with}
+use Rattle.clauses.specs.Search.{turn_count}
+use Rattle.clauses.proofs.StandingLaws.{reached-good}
+use Rattle.clauses.proofs.BoundLaws.{reached-few, never-limit}
+use Rattle.clauses.proofs.laws.learned_clauses_name_others.Goals as goal
+
+pub returns-clause-others : goal.returns-clause-others
+returns-clause-others c = λ problem key now at. (reached-good (clauses_with problem key) problem.variables problem.allowance at.0 now at.1).others
+
+pub returns-clause-most : goal.returns-clause-most
+returns-clause-most c = λ problem key now at. let few = reached-few (clauses_with problem key) problem.variables problem.allowance at.0 now at.1 in omega arith
+
+pub returns-clause-allowed : goal.returns-clause-allowed
+returns-clause-allowed c = λ problem key most e. never-limit (clauses_with problem key) problem.variables problem.allowance (turn_count problem.variables problem.allowance) (omega arith) e

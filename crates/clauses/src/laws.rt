@@ -1,0 +1,57 @@
+//! What the definitions mean: propagation as a least set, and what each answer of the search says.
+ghost use Rattle.std.specs.Prelude.{◌≡◌, ◌↔◌, ◌-◌, ◌^◌, ◌≤◌, ◌++◌, Bool, List, [], length, IsFalse, Any, All, Contains, IsTrue, IsSome, Some};
+ghost use Rattle.req_keys.specs.Key.{PositionSet};
+ghost use Rattle.clauses.specs.declared.literal.Lit.{Lit};
+ghost use Rattle.clauses.specs.Clause.{is_satisfied, are_satisfied, negation};
+ghost use Rattle.clauses.specs.Closure.{closure, clash, follows, AreAmong, IsClosed, AreDerived, IsDerivation};
+ghost use Rattle.clauses.specs.Problem.{ClauseProblem, IsProblem, clauses_with};
+ghost use Rattle.clauses.specs.Search.{Standing, Sat, Unsat, Limit, NameOthers, clashing, search_of, under, IsReached};
+
+/// The closure is the least set of literals that has each literal that a clause forces in it, so neither the order of
+/// clauses and literals nor a repeated one makes a difference. The clauses clash where one has all its literals
+/// negated there.
+pub fn closure_is_least()
+    ensures closed { (clauses : List (List Lit)) → IsClosed clauses (Contains (closure clauses)) }
+    ensures least { (clauses : List (List Lit)) (set : List Lit) → IsClosed clauses (Contains set) → (literal : Lit) → Contains (closure clauses) literal → Contains set literal }
+    ensures order { (a b : List (List Lit)) → AreAmong a b → (literal : Lit) → Contains (closure a) literal → Contains (closure b) literal }
+    ensures clash { (clauses : List (List Lit)) → IsTrue (clash clauses) ↔ Any (All (λ literal. Contains (closure clauses) (negation literal))) clauses }
+{}
+
+/// A clause that follows by reverse unit propagation is true wherever the clauses are.
+pub fn what_follows_is_true()
+    ensures { (clauses : List (List Lit)) (clause : List Lit) → IsTrue (follows clauses clause) → (values : List Bool) → IsTrue (are_satisfied values clauses) → IsTrue (is_satisfied values clause) }
+{}
+
+/// The search always ends, in Sat, Unsat or Limit: the count that bounds it is enough.
+pub fn search_ends()
+    ensures { (problem : ClauseProblem) (key : PositionSet) → IsSome (search_of problem key) }
+{}
+
+/// While decisions stand, the clauses and the learned ones don't clash without them, so at a clash the trimmed set of
+/// the decisions has a member.
+pub fn trimmed_decisions_have_a_member()
+    ensures calm { (problem : ClauseProblem) (key : PositionSet) (now : Standing) → IsReached problem key now → (¬ now.decisions ≡ []) → IsFalse (clash (clauses_with problem key ++ now.learned)) }
+    ensures member { (problem : ClauseProblem) (key : PositionSet) (now : Standing) → IsReached problem key now → (¬ now.decisions ≡ []) → IsTrue (clash (under (clauses_with problem key) now)) → ¬ clashing (clauses_with problem key ++ now.learned) now.decisions ≡ [] }
+{}
+
+/// No learned clause names the same set of variables as an earlier one, so over v variables at most 2^v - 1 are learned,
+/// and with an allowance of that many no search is a Limit.
+pub fn learned_clauses_name_others()
+    ensures others { (problem : ClauseProblem) (key : PositionSet) (now : Standing) → IsReached problem key now → NameOthers [] now.learned }
+    ensures most { (problem : ClauseProblem) (key : PositionSet) (now : Standing) → IsReached problem key now → length now.learned ≤ 2 ^ problem.variables - 1 }
+    ensures allowed { (problem : ClauseProblem) (key : PositionSet) → 2 ^ problem.variables - 1 ≤ problem.allowance → ¬ search_of problem key ≡ Some Limit }
+{}
+
+/// Sat comes with a value for each variable, which makes every clause and the key's roots true.
+pub fn sat_is_an_assignment()
+    ensures sized { (problem : ClauseProblem) (key : PositionSet) (values : List Bool) → IsProblem problem → search_of problem key ≡ Some (Sat values) → length values ≡ problem.variables }
+    ensures satisfied { (problem : ClauseProblem) (key : PositionSet) (values : List Bool) → IsProblem problem → search_of problem key ≡ Some (Sat values) → IsTrue (are_satisfied values (clauses_with problem key)) }
+{}
+
+/// Each learned clause follows by reverse unit propagation from the clauses, the key's roots and those learned before
+/// it. Unsat comes with a derivation, so no assignment makes all clauses and the key's roots true.
+pub fn unsat_is_derived()
+    ensures learned { (problem : ClauseProblem) (key : PositionSet) (now : Standing) → IsReached problem key now → AreDerived (clauses_with problem key) now.learned }
+    ensures derivation { (problem : ClauseProblem) (key : PositionSet) (lines : List (List Lit)) → search_of problem key ≡ Some (Unsat lines) → IsDerivation (clauses_with problem key) lines }
+    ensures unsatisfiable { (problem : ClauseProblem) (key : PositionSet) (lines : List (List Lit)) → search_of problem key ≡ Some (Unsat lines) → (values : List Bool) → ¬ IsTrue (are_satisfied values (clauses_with problem key)) }
+{}

@@ -1,0 +1,22 @@
+//! Clauses, problems, and what unit propagation and the search with learning are, as definitions. `Problem` is what a
+//! search is about, and `ClauseBuilder` makes its clauses. Layers above may rely on the invariant of `Problem`, on the
+//! definitions of closure, clash and search in `specs/`, which compute, and on the laws about them: the closure is the
+//! least closed set, the search always ends, no learned clause names the variables of an earlier one, Sat is an
+//! assignment, and Unsat is derived.
+#![tactic(auto)]
+
+mod builder;
+mod laws;
+mod literal;
+mod problem;
+
+pub use builder::ClauseBuilder;
+pub use laws::{
+    closure_is_least, learned_clauses_name_others, sat_is_an_assignment, search_ends,
+    trimmed_decisions_have_a_member, unsat_is_derived, what_follows_is_true,
+};
+pub use literal::{Clause, Clauses, Lit, Lits};
+pub use problem::Problem;
+
+#[cfg(test)]
+mod tests;
