@@ -1,5 +1,5 @@
 -- What a search learns follows by reverse unit propagation.
-use Rattle.std.proofs.Common.{◌≡◌, ◌∙◌, refl, sym, ap, subst, ⊎_elim, Some, ℕ, Bool, true, false, cond, List, [], ◌∷◌, ◌++◌, map, reverse, fold, append_assoc}
+use Rattle.std.proofs.Common.{◌≡◌, ◌∙◌, refl, sym, ap, subst, ⊎_elim, Some, ℕ, zero, suc, Bool, true, false, cond, List, [], ◌∷◌, ◌++◌, map, reverse, fold, append_assoc}
 use Rattle.std.specs.Prelude.{Contains}
 use Rattle.std.proofs.lemmas.Bool.{false≢true}
 use Rattle.std.proofs.lemmas.List.{append-nil}
@@ -12,7 +12,7 @@ use Rattle.clauses.specs.Closure.{clash, follows, AreDerived, IsDerivation}
 use Rattle.clauses.specs.Search.{Unsat, Standing, Turn, GoesOn, Ends, all_false, some_true, clashing, cut_after, turn, answer_within, standing_after, start}
 use Rattle.clauses.proofs.Members.{all_at, all_from, first_or_later, none}
 use Rattle.clauses.proofs.ClosureLaws.{follows-satisfied}
-use Rattle.clauses.proofs.TurnLaws.{IsTurn, answers, decides, refutes, gives_up, learns, turn_is, ended, reached}
+use Rattle.clauses.proofs.TurnLaws.{IsTurn, answers, decides, refutes, gives_up, learns, turn_is, ended, reached, after_one_more}
 
 step_holds : (test : List ℕ → Bool) (b : Bool) (next set : List ℕ) → test next ≡ b → test set ≡ true → test (cond b next set) ≡ true
 step_holds test true next set e h = e
@@ -70,6 +70,25 @@ module _ (clauses : List (List Lit)) (v a : ℕ) where
   unsat-derivation n lines e =
       let at = ended clauses v a (λ s. AreDerived clauses s.learned) turns_keep (Unsat lines) n start tt e in
       refuted at.0 lines (turn clauses v a at.0) at.1 at.2 (turn_is clauses v a at.0)
+
+  -- the standing at which the search ends in Unsat: nothing is decided, and the lines are what is learned and the empty
+  -- clause
+  abbrev Comes : Standing → Type 0
+  Comes s = (n : ℕ) × (standing_after n clauses v a start ≡ Some s)
+
+  lines_at : (s : Standing) (lines : List (List Lit)) (r : Turn) → r ≡ Ends (Unsat lines) → IsTurn clauses v a s r → (s.decisions ≡ []) × (lines ≡ s.learned ++ [] ∷ [])
+  lines_at s lines r e (answers c o q) = absurd (cc)
+  lines_at s lines r e (decides x xs c o q) = absurd (cc)
+  lines_at s lines r e (refutes c o q) = let same : lines ≡ s.learned ++ [] ∷ [] = cc in (o, same)
+  lines_at s lines r e (gives_up c x xs o n q) = absurd (cc)
+  lines_at s lines r e (learns c x xs o n q) = absurd (cc)
+
+  pub unsat-lines : (n : ℕ) (lines : List (List Lit)) → answer_within n clauses v a start ≡ Some (Unsat lines)
+      → (s : Standing) × Comes s × (s.decisions ≡ []) × (lines ≡ s.learned ++ [] ∷ [])
+  unsat-lines n lines e =
+      let at = ended clauses v a Comes (λ s t c g. (suc c.0, after_one_more clauses v a s t g c.0 start c.1)) (Unsat lines) n start (zero, refl) e in
+      let last = lines_at at.0 lines (turn clauses v a at.0) at.2 (turn_is clauses v a at.0) in
+      (at.0, at.1, last.0, last.1)
 
 -- an assignment of the clauses satisfies each line of a derivation, so there is none where one line is empty
 pub derived-satisfied : (values : List Bool) (clauses lines : List (List Lit)) → are_satisfied values clauses ≡ true → AreDerived clauses lines → (line : List Lit) → Contains lines line → is_satisfied values line ≡ true

@@ -141,3 +141,14 @@ closure-among a b within =
     closure-least a (Contains (closure b)) (λ clause l m n others.
     let same = within clause m in
     closure-closed b same.0 l same.1 ((same.2 l).0 n) (λ o inside other. others o ((same.2 o).1 inside) other))
+
+-- and where the first clash, the others do
+pub clash-among : (a b : List (List Lit)) → AreAmong a b → clash a ≡ true → clash b ≡ true
+clash-among a b within e =
+    let refuted = any_at (is_refuted (closure a)) a e in
+    let same = within refuted.0 refuted.1 in
+    any_from (is_refuted (closure b)) b same.0 same.1
+    (all_from (λ l. has (closure b) (negation l)) same.0 (λ l m.
+    has-from (closure b) (negation l)
+    (closure-among a b within (negation l)
+    (from_has (closure a) (negation l) (all_at (λ k. has (closure a) (negation k)) refuted.0 l refuted.2 ((same.2 l).1 m))))))

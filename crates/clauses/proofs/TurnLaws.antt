@@ -52,3 +52,18 @@ module _ (clauses : List (List Lit)) (v a : ℕ) (P : Standing → Type 0) (keep
   pub reached : (n : ℕ) (s : Standing) → P s → standing_after n clauses v a s ≡ Some last → P last
   reached zero s p e = let same : s ≡ last = cc in subst P same p
   reached (suc n) s p e = then n s p (reached n) (turn clauses v a s) refl e
+
+-- a turn after so many is one more
+module _ (clauses : List (List Lit)) (v a : ℕ) (t u : Standing) (goes_on : turn clauses v a t ≡ GoesOn u) where
+  one_more : (n : ℕ) → ((s : Standing) → standing_after n clauses v a s ≡ Some t → standing_after (suc n) clauses v a s ≡ Some u)
+      → (r : Turn) → elim r [ GoesOn next ↦ standing_after n clauses v a next | Ends x ↦ None ] ≡ Some t
+      → elim r [ GoesOn next ↦ standing_after (suc n) clauses v a next | Ends x ↦ None ] ≡ Some u
+  one_more n rest (GoesOn next) e = rest next e
+  one_more n rest (Ends x) e = absurd (cc)
+
+  pub after_one_more : (n : ℕ) (s : Standing) → standing_after n clauses v a s ≡ Some t → standing_after (suc n) clauses v a s ≡ Some u
+  after_one_more zero s e =
+      let same : t ≡ s = cc in
+      let next : turn clauses v a s ≡ GoesOn u = subst (λ w. turn clauses v a w ≡ GoesOn u) same goes_on in
+      ap (λ r. elim r [ GoesOn next ↦ Some next | Ends x ↦ None ]) next
+  after_one_more (suc n) s e = one_more n (after_one_more n) (turn clauses v a s) e

@@ -1,5 +1,5 @@
 //! What the definitions mean: propagation as a least set, and what each answer of the search says.
-ghost use Rattle.std.specs.Prelude.{◌≡◌, ◌↔◌, ◌-◌, ◌^◌, ◌≤◌, ◌++◌, Bool, List, [], length, IsFalse, Any, All, Contains, IsTrue, IsSome, Some};
+ghost use Rattle.std.specs.Prelude.{◌≡◌, ◌↔◌, ◌-◌, ◌^◌, ◌≤◌, ◌∷◌, ◌++◌, Bool, List, [], length, IsFalse, Any, All, Contains, IsTrue, IsSome, Some};
 ghost use Rattle.req_keys.specs.Key.{PositionSet};
 ghost use Rattle.clauses.specs.declared.literal.Lit.{Lit};
 ghost use Rattle.clauses.specs.Clause.{is_satisfied, are_satisfied, negation};
@@ -7,14 +7,27 @@ ghost use Rattle.clauses.specs.Closure.{closure, clash, follows, AreAmong, IsClo
 ghost use Rattle.clauses.specs.Problem.{ClauseProblem, IsProblem, clauses_with};
 ghost use Rattle.clauses.specs.Search.{Standing, Sat, Unsat, Limit, NameOthers, clashing, search_of, under, IsReached};
 
-/// The closure is the least set of literals that has each literal that a clause forces in it, so neither the order of
-/// clauses and literals nor a repeated one makes a difference. The clauses clash where one has all its literals
-/// negated there.
-pub fn closure_is_least()
+use std::marker::Brand;
+
+/// A property of literals: any fact, computed or not.
+pub trait LiteralProperty {
+    ghost holds: { Lit → Type 0 };
+}
+
+impl LiteralProperty for Brand {
+    ghost holds = { λ _. Unit {0} };
+}
+
+/// The closure is the least set of literals that has each literal that a clause forces in it: it is within every such
+/// set, given as a list or as a property. So neither the order of clauses and literals nor a repeated one makes a
+/// difference. The clauses clash where one has all its literals negated there.
+pub fn closure_is_least<P: LiteralProperty>()
     ensures closed { (clauses : List (List Lit)) → IsClosed clauses (Contains (closure clauses)) }
     ensures least { (clauses : List (List Lit)) (set : List Lit) → IsClosed clauses (Contains set) → (literal : Lit) → Contains (closure clauses) literal → Contains set literal }
+    ensures within { (clauses : List (List Lit)) → IsClosed clauses P.holds → (literal : Lit) → Contains (closure clauses) literal → P.holds literal }
     ensures order { (a b : List (List Lit)) → AreAmong a b → (literal : Lit) → Contains (closure a) literal → Contains (closure b) literal }
     ensures clash { (clauses : List (List Lit)) → IsTrue (clash clauses) ↔ Any (All (λ literal. Contains (closure clauses) (negation literal))) clauses }
+    ensures clash_order { (a b : List (List Lit)) → AreAmong a b → IsTrue (clash a) → IsTrue (clash b) }
 {}
 
 /// A clause that follows by reverse unit propagation is true wherever the clauses are.
@@ -49,8 +62,10 @@ pub fn sat_is_an_assignment()
 {}
 
 /// Each learned clause follows by reverse unit propagation from the clauses, the key's roots and those learned before
-/// it. Unsat comes with a derivation, so no assignment makes all clauses and the key's roots true.
+/// it. Unsat comes with all that was learned and then the empty clause, once nothing is decided. They are a derivation,
+/// so no assignment makes all clauses and the key's roots true.
 pub fn unsat_is_derived()
+    ensures lines { (problem : ClauseProblem) (key : PositionSet) (lines : List (List Lit)) → search_of problem key ≡ Some (Unsat lines) → (now : Standing) × IsReached problem key now × (now.decisions ≡ []) × (lines ≡ now.learned ++ [] ∷ []) }
     ensures learned { (problem : ClauseProblem) (key : PositionSet) (now : Standing) → IsReached problem key now → AreDerived (clauses_with problem key) now.learned }
     ensures derivation { (problem : ClauseProblem) (key : PositionSet) (lines : List (List Lit)) → search_of problem key ≡ Some (Unsat lines) → IsDerivation (clauses_with problem key) lines }
     ensures unsatisfiable { (problem : ClauseProblem) (key : PositionSet) (lines : List (List Lit)) → search_of problem key ≡ Some (Unsat lines) → (values : List Bool) → ¬ IsTrue (are_satisfied values (clauses_with problem key)) }

@@ -1,7 +1,10 @@
 use Rattle.clauses.specs.Problem.{clauses_with}
 use Rattle.clauses.specs.Search.{turn_count}
-use Rattle.clauses.proofs.DerivationLaws.{reached-derived, unsat-derivation, derivation-unsatisfiable}
+use Rattle.clauses.proofs.DerivationLaws.{reached-derived, unsat-derivation, unsat-lines, derivation-unsatisfiable}
 use Rattle.clauses.proofs.laws.unsat_is_derived.Goals as goal
+
+pub returns-clause-lines : goal.returns-clause-lines
+returns-clause-lines c = λ problem key lines e. unsat-lines (clauses_with problem key) problem.variables problem.allowance (turn_count problem.variables problem.allowance) lines e
 
 pub returns-clause-learned : goal.returns-clause-learned
 returns-clause-learned c = λ problem key now at. reached-derived (clauses_with problem key) problem.variables problem.allowance at.0 now at.1
