@@ -38,7 +38,8 @@ impl Model for Clause {
 }
 
 impl Clause {
-    pub(crate) fn from_slice(alloc: Global, literals: &[Lit]) -> Result<Clause, AllocError>
+    /// The clause of these literals, in their order.
+    pub fn from_slice(alloc: Global, literals: &[Lit]) -> Result<Clause, AllocError>
         ensures { IfOk result (λ clause. clause ≡ literals.now) }
     {
         let mut items = Vec::new(alloc);
