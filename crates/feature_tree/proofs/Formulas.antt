@@ -31,7 +31,7 @@ All-flat_map P f (x ∷ xs) all =
     (All-append_left P (f x) (flat_map (λ part. part) (map f xs)) all)
     (All-flat_map P f xs (All-append_right P (f x) (flat_map (λ part. part) (map f xs)) all))
 
-list_any-map : {X Y : Type 0} (f : X → Y) (p : Y → Bool) (xs : List X) → list_any p (map f xs) ≡ list_any (λ x. p (f x)) xs
+pub list_any-map : {X Y : Type 0} (f : X → Y) (p : Y → Bool) (xs : List X) → list_any p (map f xs) ≡ list_any (λ x. p (f x)) xs
 list_any-map f p [] = refl
 list_any-map f p (x ∷ xs) = ap (λ rest. p (f x) || rest) (list_any-map f p xs)
 

@@ -10,6 +10,7 @@ use Rattle.feature_tree.specs.Folds.{folds}
 use Rattle.feature_tree.specs.Truth.{truth}
 use Rattle.feature_tree.specs.Growing.{with_root, with_group, with_child}
 use Rattle.feature_tree.specs.Names.{names}
+use Rattle.feature_tree.specs.Numbered.{numbered}
 use Rattle.feature_tree.specs.Product.{allows}
 use Rattle.feature_tree.specs.Decided.{is_product, is_consistent}
 
@@ -60,6 +61,27 @@ truth_same_not = simp folds refl
 
 names_of_formula : names (Implies (Name 3) (All (Name 1 ∷ Not (Name 3) ∷ []))) ≡ 3 ∷ 1 ∷ 3 ∷ []
 names_of_formula = simp folds refl
+
+-- ---- other names: the first is 4, the second is 2
+
+abbrev four_and_two : List ℕ
+four_and_two = 4 ∷ 2 ∷ []
+
+numbered_parts : numbered four_and_two (Implies (Name 1) (All (Name 0 ∷ Not (Name 1) ∷ []))) ≡ Implies (Name 2) (All (Name 4 ∷ Not (Name 2) ∷ []))
+numbered_parts = simp folds refl
+
+numbered_any : numbered four_and_two (Any (Name 1 ∷ Name 1 ∷ Name 0 ∷ [])) ≡ Any (Name 2 ∷ Name 2 ∷ Name 4 ∷ [])
+numbered_any = simp folds refl
+
+numbered_same : numbered four_and_two (Same (Name 0) (Name 1)) ≡ Same (Name 4) (Name 2)
+numbered_same = simp folds refl
+
+-- two names may have one number, and a name beyond the list keeps its own
+numbered_alike : numbered (3 ∷ 3 ∷ []) (All (Name 0 ∷ Name 1 ∷ Name 2 ∷ [])) ≡ All (Name 3 ∷ Name 3 ∷ Name 2 ∷ [])
+numbered_alike = simp folds refl
+
+numbered_none : numbered four_and_two (All []) ≡ All []
+numbered_none = simp folds refl
 
 -- ---- groups of three children: the counts that each kind allows
 

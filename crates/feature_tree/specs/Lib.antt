@@ -5,6 +5,7 @@ pub mod Folds
 pub mod FeatureModel
 pub mod Growing
 pub mod Names
+pub mod Numbered
 pub mod Product
 pub mod Truth
 pub mod WellFormed

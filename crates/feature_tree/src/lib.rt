@@ -11,6 +11,7 @@ mod formula;
 mod group;
 mod laws;
 mod model;
+mod numbered;
 mod row;
 mod text;
 mod tree;
@@ -22,6 +23,7 @@ pub use laws::{
     consistent_is_decided, consistent_is_monotone, product_is_decided, truth_rests_on_names,
 };
 pub use model::Model;
+pub use numbered::numbered_keeps_truth;
 pub use row::{Numbers, Row};
 pub use sqlite_items::Boxed;
 pub use text::Text;

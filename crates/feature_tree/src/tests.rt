@@ -37,6 +37,31 @@ fn reads_formulas(rt: HostRuntime) -> Result<(), Fail> {
     Ok(())
 }
 
+// (a => !b) <=> (b | a), where a is feature 2 and b is feature 1.
+#[test]
+fn numbers_names(rt: HostRuntime) -> Result<(), Fail> {
+    let alloc = rt.alloc();
+    let negation = Formula::Not(Boxed::new(alloc, Formula::Name(1))?);
+    let mut negations = Row::new(alloc);
+    negations.push(negation)?;
+    let all = Formula::All(negations);
+    let left = Formula::Implies(
+        Boxed::new(alloc, Formula::Name(0))?,
+        Boxed::new(alloc, all)?,
+    );
+    let mut parts = Row::new(alloc);
+    parts.push(Formula::Name(1))?;
+    parts.push(Formula::Name(0))?;
+    let right = Formula::Any(parts);
+    let formula = Formula::Same(Boxed::new(alloc, left)?, Boxed::new(alloc, right)?);
+    let numbered = formula.numbered(alloc, &[2, 1])?;
+    assert!(rt; numbered.holds(&[false, false, true]));
+    assert!(rt; numbered.holds(&[true, true, false]));
+    assert!(rt; !numbered.holds(&[true, true, true]));
+    assert!(rt; !numbered.holds(&[true, false, false]));
+    Ok(())
+}
+
 #[test]
 fn names_are_their_bytes(rt: HostRuntime) -> Result<(), Fail> {
     let alloc = rt.alloc();
