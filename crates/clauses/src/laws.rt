@@ -9,13 +9,13 @@ ghost use Rattle.clauses.specs.Search.{Standing, Sat, Unsat, Limit, NameOthers, 
 
 use std::marker::Brand;
 
-/// A property of literals: any fact, computed or not.
+/// A property of literals, any fact, computed or not, about a value of the type: as 'true in this assignment'.
 pub trait LiteralProperty {
-    ghost holds: { Lit → Type 0 };
+    ghost holds: { Self → Lit → Type 0 };
 }
 
 impl LiteralProperty for Brand {
-    ghost holds = { λ _. Unit {0} };
+    ghost holds = { λ _ _. Unit {0} };
 }
 
 /// The closure is the least set of literals that has each literal that a clause forces in it: it is within every such
@@ -24,7 +24,7 @@ impl LiteralProperty for Brand {
 pub fn closure_is_least<P: LiteralProperty>()
     ensures closed { (clauses : List (List Lit)) → IsClosed clauses (Contains (closure clauses)) }
     ensures least { (clauses : List (List Lit)) (set : List Lit) → IsClosed clauses (Contains set) → (literal : Lit) → Contains (closure clauses) literal → Contains set literal }
-    ensures within { (clauses : List (List Lit)) → IsClosed clauses P.holds → (literal : Lit) → Contains (closure clauses) literal → P.holds literal }
+    ensures within { (about : P) (clauses : List (List Lit)) → IsClosed clauses (P.holds about) → (literal : Lit) → Contains (closure clauses) literal → P.holds about literal }
     ensures order { (a b : List (List Lit)) → AreAmong a b → (literal : Lit) → Contains (closure a) literal → Contains (closure b) literal }
     ensures clash { (clauses : List (List Lit)) → IsTrue (clash clauses) ↔ Any (All (λ literal. Contains (closure clauses) (negation literal))) clauses }
     ensures clash_order { (a b : List (List Lit)) → AreAmong a b → IsTrue (clash a) → IsTrue (clash b) }

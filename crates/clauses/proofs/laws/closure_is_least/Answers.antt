@@ -9,7 +9,7 @@ pub returns-clause-least : goal.returns-clause-least
 returns-clause-least g c = λ clauses set. closure-least clauses (Contains set)
 
 pub returns-clause-within : goal.returns-clause-within
-returns-clause-within g c = λ clauses. closure-least clauses g.P.LiteralProperty.holds
+returns-clause-within g c = λ about clauses. closure-least clauses (g.P.LiteralProperty.holds about)
 
 pub returns-clause-order : goal.returns-clause-order
 returns-clause-order g c = closure-among
