@@ -14,7 +14,7 @@ use Rattle.clauses.specs.Search.{Sat, Standing, Turn, Ends, under, all_false as 
 use Rattle.clauses.proofs.TurnLaws.{IsTurn, answers, decides, refutes, gives_up, learns, turn_is, ended}
 use Rattle.clauses.proofs.Members.{later, none, first_or_later, any_from, any_none, all_from, all_false, to_filter, from_map}
 
-in_range : (v x : ℕ) → x < v → Contains (range_with_len 0 v) x
+pub in_range : (v x : ℕ) → x < v → Contains (range_with_len 0 v) x
 in_range v x l =
     let size : length (range_with_len 0 v) ≡ v = length-range_with_len 0 v in
     let within : x < length (range_with_len 0 v) = omega arith in
