@@ -1,6 +1,14 @@
 pub mod BestLaws
+pub mod ClosedTables
+pub mod FastDiagLaws
 pub mod GreedyLaws
+pub mod KeptByHalves
+pub mod OnlyLaws
+pub mod PlanLaws
+pub mod PositionLaws
 pub mod PreferredLaws
+pub mod QuickXplainLaws
 pub mod TestLaws
 pub mod TrimLaws
-pub mod OnlyLaws
+pub mod TrimmedByHalves
+pub mod TurnLaws

@@ -1,6 +1,11 @@
+pub mod Answers
 pub mod Examples
+pub mod FastDiag
 pub mod Greedy
 pub mod Kept
+pub mod Positions
 pub mod Preferred
+pub mod QuickXplain
+pub mod RecursionExamples
 pub mod Trimmed
 pub mod TrimmedBehind

@@ -32,6 +32,20 @@ impl Relaxable for Brand {
     ghost fewer = { λ _ _ _ _. tt };
 }
 
+/// A property that passes to every set with fewer members, as 'consistent with a model': the value is the model. Of
+/// the empty set nothing is said.
+pub trait Shrinking {
+    ghost holds: { Self → List ℕ → Type 0 };
+
+    ghost fewer: { (about : Self) (a b : List ℕ) → IsWithin a b → holds about b → holds about a };
+}
+
+impl Shrinking for Brand {
+    ghost holds = { λ _ _. Unit {0} };
+
+    ghost fewer = { λ _ _ _ _ _. tt };
+}
+
 /// A property that passes to every set with more members, as 'not consistent'.
 pub trait Growing {
     ghost holds: { List ℕ → Type 0 };

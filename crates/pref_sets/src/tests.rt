@@ -1,10 +1,18 @@
 //! A test of sets that holds a `&mut`, as a caller's may, and counts how often it is asked.
-ghost use Rattle.std.specs.Prelude.{◌≡◌, ◌↔◌, ◌⊎◌, ◌≤◌, All, Contains, IsTrue, IfOk};
+ghost use Rattle.std.specs.Prelude.{◌≡◌, ◌↔◌, ◌⊎◌, ◌≤◌, ℕ, List, [], ◌∷◌, All, Contains, IsTrue, IfOk};
 ghost use Rattle.std.proofs.Common.{refl, sym, ◌∙◌, inl, inr, ⊎_elim};
 ghost use Rattle.std.proofs.lemmas.List.Elements.{All-weaker};
+ghost use Rattle.std.specs.List.Sorted.{IsStrictlyIncreasing};
+ghost use Rattle.pref_sets.specs.Answers.{Answer, AgreesWith, Done};
+ghost use Rattle.pref_sets.specs.FastDiag.{fd};
+ghost use Rattle.pref_sets.specs.Kept.{IsKept};
 ghost use Rattle.pref_sets.specs.Preferred.{IsDistinct};
+ghost use Rattle.pref_sets.specs.QuickXplain.{qx};
+ghost use Rattle.pref_sets.specs.Trimmed.{IsTrimmed};
 
+use crate::laws::Shrinking;
 use crate::numbers::Numbers;
+use crate::recursions::{fd_is_kept, qx_is_trimmed, right_answers_agree};
 use crate::trimming::{MonotoneTest, trim};
 use std::alloc::{AllocError, Global};
 use std::process::Abort;
@@ -117,4 +125,36 @@ fn lists_grow(rt: HostRuntime) -> Result<(), AllocError> {
     assert!(rt; numbers.len() == 2);
     assert!(rt; *numbers.get(1) == 9);
     Ok(())
+}
+
+/// Two positions that don't go together.
+struct Apart {
+    first: u32,
+    second: u32,
+}
+
+impl Shrinking for Apart {
+    ghost holds = { λ about set. ¬ (Contains set about.first × Contains set about.second) };
+
+    ghost fewer = { λ about a b within apart both. apart (within about.first both.0, within about.second both.1) };
+}
+
+/// The laws as a caller has them, for a property that a value gives.
+fn recursions_of(apart: &Apart)
+    ensures kept { (kept : List ℕ) (table : List Answer) →
+        IsStrictlyIncreasing (apart.now.first ∷ apart.now.second ∷ []) →
+        AgreesWith (λ set. ¬ (Contains set apart.now.first × Contains set apart.now.second)) table →
+        fd (apart.now.first ∷ apart.now.second ∷ []) table ≡ Done kept →
+        IsKept (λ set. ¬ (Contains set apart.now.first × Contains set apart.now.second)) (apart.now.first ∷ apart.now.second ∷ []) kept }
+    ensures trimmed { (left : List ℕ) (table : List Answer) →
+        IsStrictlyIncreasing (apart.now.first ∷ apart.now.second ∷ []) →
+        ¬ (Contains [] apart.now.first × Contains [] apart.now.second) →
+        AgreesWith (λ set. ¬ (Contains set apart.now.first × Contains set apart.now.second)) table →
+        qx (apart.now.first ∷ apart.now.second ∷ []) table ≡ Done left →
+        IsTrimmed (λ set. ¬ (¬ (Contains set apart.now.first × Contains set apart.now.second))) (apart.now.first ∷ apart.now.second ∷ []) left }
+    ensures told { AgreesWith (λ set. ¬ (Contains set apart.now.first × Contains set apart.now.second)) [] }
+{
+    fd_is_kept::<Apart>();
+    qx_is_trimmed::<Apart>();
+    right_answers_agree::<Apart>();
 }

@@ -1,0 +1,8 @@
+use Rattle.pref_sets.proofs.TurnLaws.{IsToldInTurn-none, IsToldInTurn-push}
+use Rattle.pref_sets.proofs.recursions.answers_in_turn.Goals as goal
+
+pub returns-clause-none : goal.returns-clause-none
+returns-clause-none c = λ next start. IsToldInTurn-none next start
+
+pub returns-clause-one_more : goal.returns-clause-one_more
+returns-clause-one_more c = λ next start told answer h e. IsToldInTurn-push next start told answer h e

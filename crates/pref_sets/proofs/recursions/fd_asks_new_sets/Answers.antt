@@ -1,0 +1,24 @@
+use Rattle.std.proofs.Common.{[], true, length, sym, ◌∙◌}
+use Rattle.pref_sets.specs.Preferred.{IsWithin}
+use Rattle.pref_sets.proofs.FastDiagLaws.{fd_plan, fd_part-plan, fd_plan-within, fd_plan-ascends}
+use Rattle.pref_sets.proofs.PlanLaws.{AsksOnly-asked, over-new}
+use Rattle.pref_sets.proofs.PositionLaws.{Ascends, Ascends-from_increasing, IsStrictlyIncreasing-from_Ascends}
+use Rattle.pref_sets.proofs.TrimLaws.{contains_none}
+use Rattle.pref_sets.proofs.recursions.fd_asks_new_sets.Goals as goal
+
+pub returns-clause-new : goal.returns-clause-new
+returns-clause-new c = λ positions asked table e.
+    over-new table (fd_plan (length positions) positions [] true) asked (sym (fd_part-plan (length positions) table positions [] true) ∙ e)
+
+pub returns-clause-within : goal.returns-clause-within
+returns-clause-within c = λ positions asked table e.
+    AsksOnly-asked (λ set. IsWithin set positions) (λ set. IsWithin set positions) table (fd_plan (length positions) positions [] true)
+    (fd_plan-within positions (length positions) positions [] true (λ i m. absurd (contains_none i m)) (λ i m. m))
+    asked (sym (fd_part-plan (length positions) table positions [] true) ∙ e)
+
+pub returns-clause-ascending : goal.returns-clause-ascending
+returns-clause-ascending c = λ positions asked table rises e.
+    IsStrictlyIncreasing-from_Ascends asked
+    (AsksOnly-asked Ascends Ascends table (fd_plan (length positions) positions [] true)
+    (fd_plan-ascends (length positions) positions [] true (Ascends-from_increasing positions rises))
+    asked (sym (fd_part-plan (length positions) table positions [] true) ∙ e))

@@ -1,0 +1,177 @@
+//! What FastDiag and QuickXplain over a table of answers find, which sets they ask, and that they end.
+ghost use Rattle.std.specs.Prelude.{◌≡◌, ℕ, ◌*◌, ◌-◌, ◌≤◌, Bool, true, false, MatchBool, Some, None, List, [], ◌∷◌, ◌++◌, length, All};
+ghost use Rattle.std.specs.List.Sorted.{IsStrictlyIncreasing};
+ghost use Rattle.pref_sets.specs.Answers.{Answer, AgreesWith, IsClosed, IsWithinSat, IsToldInTurn, Next, Ask, Done, answer_to, and_then, same_set};
+ghost use Rattle.pref_sets.specs.FastDiag.{fd, fd_behind, fd_part, unless_sat};
+ghost use Rattle.pref_sets.specs.Kept.{IsKept};
+ghost use Rattle.pref_sets.specs.Positions.{union, lower_half, upper_half};
+ghost use Rattle.pref_sets.specs.Preferred.{IsWithin};
+ghost use Rattle.pref_sets.specs.QuickXplain.{qx, qx_behind, qx_part, unless_unsat};
+ghost use Rattle.pref_sets.specs.Trimmed.{IsTrimmed};
+
+use crate::laws::Shrinking;
+
+/// What FastDiag finds is the kept set: of ascending positions that don't have the property together, over every table
+/// that agrees with the property. Behind a background it is the kept set for the property that a set has with it.
+pub fn fd_is_kept<P: Shrinking>()
+    ensures kept { (about : P) (positions kept : List ℕ) (table : List Answer) →
+        IsStrictlyIncreasing positions → ¬ P.holds about positions →
+        AgreesWith (P.holds about) table → fd positions table ≡ Done kept →
+        IsKept (P.holds about) positions kept }
+    ensures behind { (about : P) (positions background kept : List ℕ) (table : List Answer) →
+        IsStrictlyIncreasing positions → ¬ P.holds about (union background positions) →
+        AgreesWith (P.holds about) table → fd_behind table positions background true ≡ Done kept →
+        IsKept (λ set. P.holds about (union background set)) positions kept }
+    ensures within { (positions kept : List ℕ) (table : List Answer) → fd positions table ≡ Done kept →
+        IsWithin kept positions }
+    ensures ascending { (positions kept : List ℕ) (table : List Answer) → IsStrictlyIncreasing positions →
+        fd positions table ≡ Done kept → IsStrictlyIncreasing kept }
+{}
+
+/// The same for a table that is closed under subsets and has the positions as Unsat. Its property is to be within a
+/// set that the table has as Sat.
+pub fn fd_of_closed_table()
+    ensures { (positions kept : List ℕ) (table : List Answer) → IsStrictlyIncreasing positions →
+        IsClosed table → answer_to table positions ≡ Some false → fd positions table ≡ Done kept →
+        IsKept (IsWithinSat table) positions kept }
+{}
+
+/// What QuickXplain finds is the trimmed set for not having the property: of ascending positions, where the empty set
+/// has the property, over every table that agrees with the property. If the positions don't have it together, that is
+/// their preferred conflict, and a conflict. It is subset-minimal.
+pub fn qx_is_trimmed<P: Shrinking>()
+    ensures trimmed { (about : P) (positions left : List ℕ) (table : List Answer) →
+        IsStrictlyIncreasing positions → P.holds about [] → AgreesWith (P.holds about) table →
+        qx positions table ≡ Done left → IsTrimmed (λ set. ¬ P.holds about set) positions left }
+    ensures conflict { (about : P) (positions left : List ℕ) (table : List Answer) →
+        IsStrictlyIncreasing positions → ¬ P.holds about positions → P.holds about [] →
+        AgreesWith (P.holds about) table → qx positions table ≡ Done left → ¬ P.holds about left }
+    ensures minimal { (about : P) (positions left : List ℕ) (table : List Answer) →
+        IsStrictlyIncreasing positions → P.holds about [] → AgreesWith (P.holds about) table →
+        qx positions table ≡ Done left → (other : List ℕ) → IsWithin other left →
+        ¬ P.holds about other → IsWithin left other }
+    ensures within { (positions left : List ℕ) (table : List Answer) → qx positions table ≡ Done left →
+        IsWithin left positions }
+    ensures ascending { (positions left : List ℕ) (table : List Answer) → IsStrictlyIncreasing positions →
+        qx positions table ≡ Done left → IsStrictlyIncreasing left }
+{}
+
+/// The same for a table that is closed under subsets and has the empty set as Sat. It is a conflict where the table has
+/// the positions as Unsat.
+pub fn qx_of_closed_table()
+    ensures trimmed { (positions left : List ℕ) (table : List Answer) → IsStrictlyIncreasing positions →
+        IsClosed table → answer_to table [] ≡ Some true → qx positions table ≡ Done left →
+        IsTrimmed (λ set. ¬ IsWithinSat table set) positions left }
+    ensures conflict { (positions left : List ℕ) (table : List Answer) → IsStrictlyIncreasing positions →
+        IsClosed table → answer_to table positions ≡ Some false → answer_to table [] ≡ Some true →
+        qx positions table ≡ Done left → ¬ IsWithinSat table left }
+    ensures minimal { (positions left : List ℕ) (table : List Answer) → IsStrictlyIncreasing positions →
+        IsClosed table → answer_to table [] ≡ Some true → qx positions table ≡ Done left →
+        (other : List ℕ) → IsWithin other left → ¬ IsWithinSat table other → IsWithin left other }
+{}
+
+/// FastDiag asks only sets of its positions, and none that the table has.
+pub fn fd_asks_new_sets()
+    ensures new { (positions asked : List ℕ) (table : List Answer) → fd positions table ≡ Ask asked →
+        answer_to table asked ≡ None }
+    ensures within { (positions asked : List ℕ) (table : List Answer) → fd positions table ≡ Ask asked →
+        IsWithin asked positions }
+    ensures ascending { (positions asked : List ℕ) (table : List Answer) → IsStrictlyIncreasing positions →
+        fd positions table ≡ Ask asked → IsStrictlyIncreasing asked }
+{}
+
+/// QuickXplain asks only sets of its positions, and none that the table has.
+pub fn qx_asks_new_sets()
+    ensures new { (positions asked : List ℕ) (table : List Answer) → qx positions table ≡ Ask asked →
+        answer_to table asked ≡ None }
+    ensures within { (positions asked : List ℕ) (table : List Answer) → qx positions table ≡ Ask asked →
+        IsWithin asked positions }
+    ensures ascending { (positions asked : List ℕ) (table : List Answer) → IsStrictlyIncreasing positions →
+        qx positions table ≡ Ask asked → IsStrictlyIncreasing asked }
+{}
+
+/// FastDiag ends: over m positions at most 2 * m - 2 sets are asked one after the other, whatever the table at the
+/// start and the answers, and none of them twice. After so many it is done, and stays so when more is told; and for
+/// each test that answers there is such a table.
+pub fn fd_ends()
+    ensures few { (positions : List ℕ) (start told : List Answer) → IsToldInTurn (fd positions) start told →
+        length told ≤ 2 * length positions - 2 }
+    ensures done { (positions : List ℕ) (start told : List Answer) → IsToldInTurn (fd positions) start told →
+        2 * length positions - 2 ≤ length told →
+        (kept : List ℕ) × (fd positions (start ++ told) ≡ Done kept) }
+    ensures stays { (positions kept : List ℕ) (table more : List Answer) → fd positions table ≡ Done kept →
+        fd positions (table ++ more) ≡ Done kept }
+    ensures once { (positions : List ℕ) (start told : List Answer) → IsToldInTurn (fd positions) start told →
+        (before : List Answer) (answer : Answer) (after : List Answer) →
+        told ≡ before ++ answer ∷ after → answer_to (start ++ before) answer.set ≡ None }
+    ensures answered { (positions : List ℕ) (start : List Answer) (test : List ℕ → Bool) →
+        (told : List Answer) × (kept : List ℕ) × IsToldInTurn (fd positions) start told ×
+        All (λ answer. answer.sat ≡ test answer.set) told × (fd positions (start ++ told) ≡ Done kept) }
+{}
+
+/// QuickXplain ends: over m positions at most 2 * m - 2 sets are asked one after the other, whatever the table at the
+/// start and the answers, and none of them twice. After so many it is done, and stays so when more is told; and for
+/// each test that answers there is such a table.
+pub fn qx_ends()
+    ensures few { (positions : List ℕ) (start told : List Answer) → IsToldInTurn (qx positions) start told →
+        length told ≤ 2 * length positions - 2 }
+    ensures done { (positions : List ℕ) (start told : List Answer) → IsToldInTurn (qx positions) start told →
+        2 * length positions - 2 ≤ length told →
+        (left : List ℕ) × (qx positions (start ++ told) ≡ Done left) }
+    ensures stays { (positions left : List ℕ) (table more : List Answer) → qx positions table ≡ Done left →
+        qx positions (table ++ more) ≡ Done left }
+    ensures once { (positions : List ℕ) (start told : List Answer) → IsToldInTurn (qx positions) start told →
+        (before : List Answer) (answer : Answer) (after : List Answer) →
+        told ≡ before ++ answer ∷ after → answer_to (start ++ before) answer.set ≡ None }
+    ensures answered { (positions : List ℕ) (start : List Answer) (test : List ℕ → Bool) →
+        (told : List Answer) × (left : List ℕ) × IsToldInTurn (qx positions) start told ×
+        All (λ answer. answer.sat ≡ test answer.set) told × (qx positions (start ++ told) ≡ Done left) }
+{}
+
+/// The number of positions is count enough for FastDiag: a greater count changes nothing, and the recursion goes by
+/// the halves, with no count in sight.
+pub fn fd_goes_by_halves()
+    ensures enough { (count : ℕ) (table : List Answer) (positions background : List ℕ) (known : Bool) →
+        length positions ≤ count →
+        fd_part count table positions background known ≡ fd_behind table positions background known }
+    ensures one { (table : List Answer) (position : ℕ) (background : List ℕ) (known : Bool) →
+        fd_behind table (position ∷ []) background known ≡ unless_sat table (position ∷ []) background known (Done []) }
+    ensures more { (table : List Answer) (positions background : List ℕ) (known : Bool) → 2 ≤ length positions →
+        fd_behind table positions background known ≡
+        unless_sat table positions background known
+        (and_then (fd_behind table (lower_half positions) background false) (λ lower.
+        and_then (fd_behind table (upper_half positions) (union background lower) (same_set lower (lower_half positions))) (λ upper.
+        Done (union lower upper)))) }
+{}
+
+/// The number of positions is count enough for QuickXplain: a greater count changes nothing, and the recursion goes by
+/// the halves, with no count in sight.
+pub fn qx_goes_by_halves()
+    ensures enough { (count : ℕ) (table : List Answer) (background added positions : List ℕ) →
+        length positions ≤ count →
+        qx_part count table background added positions ≡ qx_behind table background added positions }
+    ensures one { (table : List Answer) (background added : List ℕ) (position : ℕ) →
+        qx_behind table background added (position ∷ []) ≡ unless_unsat table background added (Done (position ∷ [])) }
+    ensures more { (table : List Answer) (background added positions : List ℕ) → 2 ≤ length positions →
+        qx_behind table background added positions ≡
+        unless_unsat table background added
+        (and_then (qx_behind table (union background (lower_half positions)) (lower_half positions) (upper_half positions)) (λ upper.
+        and_then (qx_behind table (union background upper) upper (lower_half positions)) (λ lower.
+        Done (union lower upper)))) }
+{}
+
+/// A table that agrees with a property still does with one more right answer.
+pub fn right_answers_agree<P: Shrinking>()
+    ensures none { (about : P) → AgreesWith (P.holds about) [] }
+    ensures one_more { (about : P) (table : List Answer) (answer : Answer) → AgreesWith (P.holds about) table →
+        MatchBool answer.sat (P.holds about answer.set) (¬ P.holds about answer.set) →
+        AgreesWith (P.holds about) (table ++ answer ∷ []) }
+{}
+
+/// Answers are told in turn one by one.
+pub fn answers_in_turn()
+    ensures none { (next : List Answer → Next) (start : List Answer) → IsToldInTurn next start [] }
+    ensures one_more { (next : List Answer → Next) (start told : List Answer) (answer : Answer) →
+        IsToldInTurn next start told → next (start ++ told) ≡ Ask answer.set →
+        IsToldInTurn next start (told ++ answer ∷ []) }
+{}
