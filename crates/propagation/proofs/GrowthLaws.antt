@@ -1,0 +1,125 @@
+-- What stays right when literals are assumed or clauses learned.
+use Rattle.std.proofs.Common.{◌≡◌, ◌∙◌, refl, sym, ap, subst, ⊎_elim, ℕ, ◌<◌, ◌≤◌, Bool, true, false, List, [], ◌∷◌, ◌++◌, map, length, Option, Some, None, arith}
+use Rattle.std.specs.Prelude.{Contains}
+use Rattle.std.proofs.Math.ListN.{get_or-eq_default}
+use Rattle.std.proofs.lemmas.List.Elements.{Contains-append_left, Contains-append_right, Contains-append_cases}
+use Rattle.req_keys.specs.Key.{PositionSet}
+use Rattle.clauses.specs.declared.literal.Lit.{Lit}
+use Rattle.clauses.specs.Clause.{negative_of, unit_of}
+use Rattle.clauses.specs.Closure.{closure, clash, AreAmong}
+use Rattle.clauses.specs.Problem.{ClauseProblem, clauses_with, roots_at}
+use Rattle.clauses.specs.Search.{Standing, all_false, under}
+use Rattle.clauses.proofs.Members.{from_map, to_map}
+use Rattle.clauses.proofs.LeastLaws.{closure-among}
+use Rattle.propagation.specs.Propagation.{all_of, propagated, as_searched, value_of}
+use Rattle.propagation.specs.Values.{value_at, IsSound, Shows, IsPart}
+use Rattle.propagation.proofs.ValueLaws.{value-true, value-false, part-among}
+
+-- ---- what there is more of
+
+module _ (clauses learned : List (List Lit)) (assumed : List Lit) where
+  map-part : (more : List Lit) → IsPart (map unit_of assumed) (map unit_of (assumed ++ more))
+  map-part more clause m =
+      let from = from_map unit_of assumed clause m in
+      subst (Contains (map unit_of (assumed ++ more))) from.2 (to_map unit_of (assumed ++ more) from.0 (Contains-append_left assumed more from.0 from.1))
+
+  pub more_assumed : (more : List Lit) → AreAmong (all_of clauses learned assumed) (all_of clauses learned (assumed ++ more))
+  more_assumed more =
+      part-among (all_of clauses learned assumed) (all_of clauses learned (assumed ++ more)) (λ clause m.
+      ⊎_elim
+      (λ (front : Contains (clauses ++ learned) clause). Contains-append_left (clauses ++ learned) (map unit_of (assumed ++ more)) clause front)
+      (λ (back : Contains (map unit_of assumed) clause). Contains-append_right (clauses ++ learned) (map unit_of (assumed ++ more)) clause (map-part more clause back))
+      (Contains-append_cases (clauses ++ learned) (map unit_of assumed) clause m))
+
+  pub more_learned : (more : List (List Lit)) → AreAmong (all_of clauses learned assumed) (all_of clauses (learned ++ more) assumed)
+  more_learned more =
+      let after = clauses ++ (learned ++ more) in
+      part-among (all_of clauses learned assumed) (all_of clauses (learned ++ more) assumed) (λ clause m.
+      ⊎_elim
+      (λ (front : Contains (clauses ++ learned) clause).
+      Contains-append_left after (map unit_of assumed) clause
+      (⊎_elim
+      (λ (old : Contains clauses clause). Contains-append_left clauses (learned ++ more) clause old)
+      (λ (new : Contains learned clause). Contains-append_right clauses (learned ++ more) clause (Contains-append_left learned more clause new))
+      (Contains-append_cases clauses learned clause front)))
+      (λ (back : Contains (map unit_of assumed) clause). Contains-append_right after (map unit_of assumed) clause back)
+      (Contains-append_cases (clauses ++ learned) (map unit_of assumed) clause m))
+
+-- ---- values that are right stay in the closure
+
+none≢some : (b : Bool) → None ≡ Some b → ⊥
+none≢some b e = cc
+
+pub valued-below : (values : List (Option Bool)) (var : ℕ) (b : Bool) → value_at values var ≡ Some b → var < length values
+valued-below values var b e =
+    let past : length values ≤ var → ⊥ = λ g. none≢some b (sym (get_or-eq_default values None g) ∙ e) in
+    omega arith
+
+in_closure : (clauses : List (List Lit)) (var : ℕ) (b : Bool) → clash clauses ≡ false → value_of clauses var ≡ Some b → Contains (closure clauses) (record { var = var; positive = b })
+in_closure clauses var true calm e = (value-true clauses var).0 e
+in_closure clauses var false calm e = (value-false clauses var calm).0 e
+
+pub shown-sound : (a b : List (List Lit)) → AreAmong a b → clash a ≡ false → (values : List (Option Bool)) → Shows a values → IsSound b values
+shown-sound a b within calm values shows = λ l t.
+    closure-among a b within l (in_closure a l.var l.positive calm (sym (shows l.var (valued-below values l.var l.positive t)) ∙ t))
+
+-- ---- the order of a search
+
+map-append : (a b : List Lit) → map unit_of (a ++ b) ≡ map unit_of a ++ map unit_of b
+map-append [] b = refl
+map-append (x ∷ a) b = ap (λ r. unit_of x ∷ r) (map-append a b)
+
+map-decisions : (variables : List ℕ) → map unit_of (map negative_of variables) ≡ all_false variables
+map-decisions [] = refl
+map-decisions (x ∷ xs) = ap (λ r. unit_of (negative_of x) ∷ r) (map-decisions xs)
+
+module _ (clauses learned roots decisions : List (List Lit)) where
+  pub there : IsPart ((clauses ++ learned) ++ (roots ++ decisions)) (((clauses ++ roots) ++ learned) ++ decisions)
+  there clause m =
+      ⊎_elim
+      (λ (front : Contains (clauses ++ learned) clause).
+      Contains-append_left ((clauses ++ roots) ++ learned) decisions clause
+      (⊎_elim
+      (λ (c : Contains clauses clause). Contains-append_left (clauses ++ roots) learned clause (Contains-append_left clauses roots clause c))
+      (λ (l : Contains learned clause). Contains-append_right (clauses ++ roots) learned clause l)
+      (Contains-append_cases clauses learned clause front)))
+      (λ (back : Contains (roots ++ decisions) clause).
+      ⊎_elim
+      (λ (r : Contains roots clause). Contains-append_left ((clauses ++ roots) ++ learned) decisions clause (Contains-append_left (clauses ++ roots) learned clause (Contains-append_right clauses roots clause r)))
+      (λ (d : Contains decisions clause). Contains-append_right ((clauses ++ roots) ++ learned) decisions clause d)
+      (Contains-append_cases roots decisions clause back))
+      (Contains-append_cases (clauses ++ learned) (roots ++ decisions) clause m)
+
+  pub back : IsPart (((clauses ++ roots) ++ learned) ++ decisions) ((clauses ++ learned) ++ (roots ++ decisions))
+  back clause m =
+      ⊎_elim
+      (λ (front : Contains ((clauses ++ roots) ++ learned) clause).
+      ⊎_elim
+      (λ (both : Contains (clauses ++ roots) clause).
+      ⊎_elim
+      (λ (c : Contains clauses clause). Contains-append_left (clauses ++ learned) (roots ++ decisions) clause (Contains-append_left clauses learned clause c))
+      (λ (r : Contains roots clause). Contains-append_right (clauses ++ learned) (roots ++ decisions) clause (Contains-append_left roots decisions clause r))
+      (Contains-append_cases clauses roots clause both))
+      (λ (l : Contains learned clause). Contains-append_left (clauses ++ learned) (roots ++ decisions) clause (Contains-append_right clauses learned clause l))
+      (Contains-append_cases (clauses ++ roots) learned clause front))
+      (λ (d : Contains decisions clause). Contains-append_right (clauses ++ learned) (roots ++ decisions) clause (Contains-append_right roots decisions clause d))
+      (Contains-append_cases ((clauses ++ roots) ++ learned) decisions clause m)
+
+module _ (problem : ClauseProblem) (key : PositionSet) (now : Standing) where
+  abbrev roots : List (List Lit)
+  roots = map unit_of (roots_at problem key)
+
+  split : propagated (as_searched problem key now) ≡ (problem.clauses ++ now.learned) ++ (roots ++ all_false now.decisions)
+  split =
+      ap (λ r. (problem.clauses ++ now.learned) ++ r)
+      (map-append (roots_at problem key) (map negative_of now.decisions) ∙ ap (λ r. roots ++ r) (map-decisions now.decisions))
+
+  pub searched-there : AreAmong (propagated (as_searched problem key now)) (under (clauses_with problem key) now)
+  searched-there =
+      subst (λ cs. AreAmong cs (under (clauses_with problem key) now)) (sym split)
+      (part-among ((problem.clauses ++ now.learned) ++ (roots ++ all_false now.decisions)) (under (clauses_with problem key) now) (there problem.clauses now.learned roots (all_false now.decisions)))
+
+  pub searched-back : AreAmong (under (clauses_with problem key) now) (propagated (as_searched problem key now))
+  searched-back =
+      subst (λ cs. AreAmong (under (clauses_with problem key) now) cs) (sym split)
+      (part-among (under (clauses_with problem key) now) ((problem.clauses ++ now.learned) ++ (roots ++ all_false now.decisions)) (back problem.clauses now.learned roots (all_false now.decisions)))

@@ -1,0 +1,4 @@
+pub mod ValueLaws
+pub mod EffectLaws
+pub mod ScanLaws
+pub mod GrowthLaws

@@ -1,0 +1,4 @@
+pub mod Propagation
+pub mod Values
+pub mod UpToDate
+pub mod Examples

@@ -1,0 +1,16 @@
+//! Unit propagation by scans. `Propagator` keeps the assumed literals and the learned clauses beside a problem, and
+//! knows whether these clash and, where they don't, the value of each variable in their closure. Layers above may rely
+//! on its contract, which speaks of the closure and the clash alone, and on the laws: without a clash no variable is
+//! given both values, and neither the order of clauses nor of assumed literals makes a difference.
+#![tactic(auto)]
+
+mod laws;
+mod propagator;
+mod scan;
+mod values;
+
+pub use laws::{clauses_in_any_order, propagated_as_searched, values_are_of_the_closure};
+pub use propagator::Propagator;
+
+#[cfg(test)]
+mod tests;

@@ -1,0 +1,225 @@
+//! Propagators over problems of four variables, worked by hand. A letter is a literal: a to d are the variables, in
+//! order, and capital letters their negations. A word is a clause.
+ghost use Rattle.std.specs.Prelude.{◌≡◌, ◌<◌, All, IfOk};
+ghost use Rattle.clauses.specs.Problem.{IsBelow};
+
+use crate::Propagator;
+use clauses::{Clause, Clauses, Lit, Lits, Problem};
+use std::alloc::{AllocError, Global};
+
+fn literal_of(letter: u8) -> Lit
+    ensures { IsBelow 4 result }
+{
+    Lit {
+        var: (u32::from(letter) + 3) % 4,
+        positive: letter >= b'a',
+    }
+}
+
+fn clause_of(alloc: Global, word: &str) -> Result<Clause, AllocError>
+    ensures { IfOk result (All (IsBelow 4)) }
+{
+    let mut clause = Clause::new(alloc);
+    for letter in word.as_bytes() {
+        clause.push(literal_of(*letter))?;
+    }
+    Ok(clause)
+}
+
+fn problem_of(alloc: Global, words: &[&str]) -> Result<Problem, AllocError>
+    ensures { IfOk result (λ problem. problem.variables ≡ 4) }
+{
+    let mut clauses = Clauses::new(alloc);
+    for word in words {
+        clauses.push(clause_of(alloc, word)?)?;
+    }
+    Ok(Problem {
+        variables: 4,
+        features: 4,
+        clauses,
+        roots: Lits::new(alloc),
+        allowance: 0,
+    })
+}
+
+struct Row {
+    clauses: &'static [&'static str],
+    learned: &'static [&'static str],
+    /// Blanks stand for none.
+    assumed: &'static [u8; 4],
+    /// For each variable 1, 0 or a dash; exclamation marks for a clash.
+    values: &'static [u8; 4],
+}
+
+fn sign_of(value: Option<bool>) -> u8 {
+    match value {
+        Some(true) => b'1',
+        Some(false) => b'0',
+        None => b'-',
+    }
+}
+
+fn signs_of(propagator: &Propagator<'_>) -> [u8; 4]
+    requires { propagator.now.problem.variables ≡ 4 }
+{
+    if propagator.clashes() {
+        return *b"!!!!";
+    }
+    [
+        sign_of(propagator.value(0)),
+        sign_of(propagator.value(1)),
+        sign_of(propagator.value(2)),
+        sign_of(propagator.value(3)),
+    ]
+}
+
+fn signs_at(alloc: Global, row: &Row) -> Result<[u8; 4], AllocError> {
+    let problem = problem_of(alloc, row.clauses)?;
+    let mut propagator = Propagator::new(alloc, &problem)?;
+    for word in row.learned {
+        let clause = clause_of(alloc, word)?;
+        propagator.learn(clause.as_slice())?;
+    }
+    for letter in row.assumed {
+        if *letter != b' ' && !propagator.clashes() {
+            propagator.assume(literal_of(*letter));
+        }
+    }
+    Ok(signs_of(&propagator))
+}
+
+const ROWS: [Row; 14] = [
+    // no clauses, and a variable in none of them
+    Row {
+        clauses: &[],
+        learned: &[],
+        assumed: b"    ",
+        values: b"----",
+    },
+    Row {
+        clauses: &[],
+        learned: &[],
+        assumed: b"D   ",
+        values: b"---0",
+    },
+    // unit clauses, and what follows
+    Row {
+        clauses: &["a", "Ab", "BC"],
+        learned: &[],
+        assumed: b"    ",
+        values: b"110-",
+    },
+    // against the order of the clauses
+    Row {
+        clauses: &["Cd", "Bc", "Ab"],
+        learned: &[],
+        assumed: b"a   ",
+        values: b"1111",
+    },
+    // through a learned clause
+    Row {
+        clauses: &["BC", "Ab"],
+        learned: &["cd"],
+        assumed: b"a   ",
+        values: b"1101",
+    },
+    // a repeated literal counts once
+    Row {
+        clauses: &["aa"],
+        learned: &["bcc"],
+        assumed: b"B   ",
+        values: b"101-",
+    },
+    // a literal beside its negation forces nothing
+    Row {
+        clauses: &["aA", "bBc"],
+        learned: &[],
+        assumed: b"B   ",
+        values: b"-0--",
+    },
+    // nothing is forced while two literals are open
+    Row {
+        clauses: &["ab", "aB"],
+        learned: &[],
+        assumed: b"    ",
+        values: b"----",
+    },
+    // what is assumed was there, or its negation was
+    Row {
+        clauses: &["a", "Ab"],
+        learned: &[],
+        assumed: b"ab  ",
+        values: b"11--",
+    },
+    Row {
+        clauses: &["a", "Ab"],
+        learned: &[],
+        assumed: b"B   ",
+        values: b"!!!!",
+    },
+    // refuted unit clauses, empty clauses and learned clauses
+    Row {
+        clauses: &["a", "A"],
+        learned: &[],
+        assumed: b"    ",
+        values: b"!!!!",
+    },
+    Row {
+        clauses: &["b", ""],
+        learned: &[],
+        assumed: b"    ",
+        values: b"!!!!",
+    },
+    Row {
+        clauses: &[],
+        learned: &[""],
+        assumed: b"    ",
+        values: b"!!!!",
+    },
+    Row {
+        clauses: &["A", "B"],
+        learned: &["ab"],
+        assumed: b"    ",
+        values: b"!!!!",
+    },
+];
+
+#[test]
+fn values_of_the_closure(rt: HostRuntime) -> Result<(), AllocError> {
+    for row in &ROWS {
+        assert!(rt; signs_at(rt.alloc(), row)? == *row.values);
+    }
+    Ok(())
+}
+
+#[test]
+fn going_back_takes_a_clash_back(rt: HostRuntime) -> Result<(), AllocError> {
+    let problem = problem_of(rt.alloc(), &["Ab", "BC"])?;
+    let mut propagator = Propagator::new(rt.alloc(), &problem)?;
+    assert!(rt; !propagator.clashes() && propagator.assume(literal_of(b'a')));
+    assert!(rt; !propagator.assume(literal_of(b'c')));
+    propagator.back_to(1);
+    assert!(rt; signs_of(&propagator) == *b"110-");
+    Ok(())
+}
+
+#[test]
+fn learned_clauses_reach_what_is_assumed(rt: HostRuntime) -> Result<(), AllocError> {
+    let problem = problem_of(rt.alloc(), &["Ab", "BC"])?;
+    let mut propagator = Propagator::new(rt.alloc(), &problem)?;
+    assert!(rt; !propagator.clashes() && propagator.assume(literal_of(b'a')));
+    assert!(rt; propagator.learn(&[literal_of(b'A'), literal_of(b'd')])?);
+    assert!(rt; signs_of(&propagator) == *b"1101");
+    Ok(())
+}
+
+#[test]
+fn learned_clauses_stay(rt: HostRuntime) -> Result<(), AllocError> {
+    let problem = problem_of(rt.alloc(), &[])?;
+    let mut propagator = Propagator::new(rt.alloc(), &problem)?;
+    assert!(rt; !propagator.learn(&[])?);
+    propagator.back_to(0);
+    assert!(rt; propagator.clashes());
+    assert!(rt; propagator.into_learned().len() == 1);
+    Ok(())
+}
