@@ -151,6 +151,9 @@ module _ (clauses : List (List Lit)) (v a : ℕ) where
   pub reached-few : (n : ℕ) (last : Standing) → standing_after n clauses v a start ≡ Some last → length last.learned < 2 ^ v
   reached-few n last e = let both = reached clauses v a (Both clauses v) both_next last n start both_start e in learned-few clauses v last both.0 both.1
 
+  pub reached-low : (n : ℕ) (last : Standing) → standing_after n clauses v a start ≡ Some last → IsLow v last
+  reached-low n last e = (reached clauses v a (Both clauses v) both_next last n start both_start e).1
+
   -- where the allowance is spent, one more clause could be learned
   spent : (s : Standing) → Both clauses v s → (r : Turn) → r ≡ Ends Limit → IsTurn clauses v a s r → a + 1 < 2 ^ v
   spent s both r e (answers c o q) = absurd (cc)

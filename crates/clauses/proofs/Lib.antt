@@ -11,4 +11,5 @@ pub mod TrimmedLaws
 pub mod StandingLaws
 pub mod Subsets
 pub mod BoundLaws
+pub mod CauseLaws
 mod SatisfiedLaws

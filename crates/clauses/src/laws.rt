@@ -4,7 +4,7 @@ ghost use Rattle.req_keys.specs.Key.{PositionSet};
 ghost use Rattle.clauses.specs.declared.literal.Lit.{Lit};
 ghost use Rattle.clauses.specs.Clause.{is_satisfied, are_satisfied, negation};
 ghost use Rattle.clauses.specs.Closure.{closure, clash, follows, AreAmong, IsClosed, AreDerived, IsDerivation};
-ghost use Rattle.clauses.specs.Problem.{ClauseProblem, IsProblem, clauses_with};
+ghost use Rattle.clauses.specs.Problem.{ClauseProblem, IsBelow, IsProblem, clauses_with};
 ghost use Rattle.clauses.specs.Search.{Standing, Sat, Unsat, Limit, NameOthers, clashing, search_of, under, IsReached};
 
 use std::marker::Brand;
@@ -47,12 +47,21 @@ pub fn trimmed_decisions_have_a_member()
     ensures member { (problem : ClauseProblem) (key : PositionSet) (now : Standing) → IsReached problem key now → (¬ now.decisions ≡ []) → IsTrue (clash (under (clauses_with problem key) now)) → ¬ clashing (clauses_with problem key ++ now.learned) now.decisions ≡ [] }
 {}
 
-/// No learned clause names the same set of variables as an earlier one, so over v variables at most 2^v - 1 are learned,
-/// and with an allowance of that many no search is a Limit.
+/// Each learned clause has a member and is about variables of the problem, and none names the same set of variables as an
+/// earlier one. So over v variables at most 2^v - 1 are learned, never more than the allowance, and with an allowance of
+/// that many no search is a Limit.
 pub fn learned_clauses_name_others()
+    ensures members { (problem : ClauseProblem) (key : PositionSet) (now : Standing) → IsReached problem key now → All (λ line. ¬ line ≡ []) now.learned }
+    ensures below { (problem : ClauseProblem) (key : PositionSet) (now : Standing) → IsReached problem key now → All (All (IsBelow problem.variables)) now.learned }
+    ensures within { (problem : ClauseProblem) (key : PositionSet) (now : Standing) → IsReached problem key now → length now.learned ≤ problem.allowance }
     ensures others { (problem : ClauseProblem) (key : PositionSet) (now : Standing) → IsReached problem key now → NameOthers [] now.learned }
     ensures most { (problem : ClauseProblem) (key : PositionSet) (now : Standing) → IsReached problem key now → length now.learned ≤ 2 ^ problem.variables - 1 }
     ensures allowed { (problem : ClauseProblem) (key : PositionSet) → 2 ^ problem.variables - 1 ≤ problem.allowance → ¬ search_of problem key ≡ Some Limit }
+{}
+
+/// Limit comes exactly where the search comes to a clash with a decision when as many clauses are learned as are allowed.
+pub fn limit_is_a_spent_allowance()
+    ensures { (problem : ClauseProblem) (key : PositionSet) → search_of problem key ≡ Some Limit ↔ ((now : Standing) × IsReached problem key now × (¬ now.decisions ≡ []) × IsTrue (clash (under (clauses_with problem key) now)) × (length now.learned ≡ problem.allowance)) }
 {}
 
 /// Sat comes with a value for each variable, which makes every clause and the key's roots true.

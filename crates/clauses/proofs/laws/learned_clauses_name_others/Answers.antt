@@ -3,7 +3,17 @@ use Rattle.clauses.specs.Problem.{clauses_with}
 use Rattle.clauses.specs.Search.{turn_count}
 use Rattle.clauses.proofs.StandingLaws.{reached-good}
 use Rattle.clauses.proofs.BoundLaws.{reached-few, never-limit}
+use Rattle.clauses.proofs.CauseLaws.{reached-members, reached-below, reached-allowed}
 use Rattle.clauses.proofs.laws.learned_clauses_name_others.Goals as goal
+
+pub returns-clause-members : goal.returns-clause-members
+returns-clause-members c = λ problem key now at. reached-members (clauses_with problem key) problem.variables problem.allowance at.0 now at.1
+
+pub returns-clause-below : goal.returns-clause-below
+returns-clause-below c = λ problem key now at. reached-below (clauses_with problem key) problem.variables problem.allowance at.0 now at.1
+
+pub returns-clause-within : goal.returns-clause-within
+returns-clause-within c = λ problem key now at. reached-allowed (clauses_with problem key) problem.variables problem.allowance at.0 now at.1
 
 pub returns-clause-others : goal.returns-clause-others
 returns-clause-others c = λ problem key now at. (reached-good (clauses_with problem key) problem.variables problem.allowance at.0 now at.1).others
