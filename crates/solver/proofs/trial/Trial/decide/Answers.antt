@@ -1,0 +1,18 @@
+use Rattle.std.proofs.Common.{sym, subst}
+use Rattle.std.specs.Prelude.{◌<◌, Contains}
+use Rattle.solver.specs.Trials.{Trying, IsTrial}
+use Rattle.solver.proofs.TrialLaws.{few-assumed, trial-push}
+use Rattle.solver.proofs.trial.Trial.decide.Goals as goal
+
+pub assume-requires-clause-few : goal.assume-requires-clause-few
+assume-requires-clause-few c =
+    few-assumed c.self.inside.problem.now c.self.inside.propagator c.self.inside.fixed c.self.invariant c.args.variable
+    (subst (λ (s : Trying). c.args.variable < s.problem.variables) (sym c.self.view_is) c.requires.variable)
+    (subst (λ (s : Trying). ¬ Contains s.tried c.args.variable) (sym c.self.view_is) c.requires.new)
+
+pub invariant_of-self : goal.invariant_of-self
+invariant_of-self c =
+    subst (λ at. IsTrial c.self.inside.problem.now at c.self.inside.fixed) (sym c.assume.ensures.assumed)
+    (trial-push c.self.inside.problem.now c.self.inside.propagator c.self.inside.fixed c.self.invariant c.args.variable
+    (subst (λ (s : Trying). c.args.variable < s.problem.variables) (sym c.self.view_is) c.requires.variable)
+    (subst (λ (s : Trying). ¬ Contains s.tried c.args.variable) (sym c.self.view_is) c.requires.new))

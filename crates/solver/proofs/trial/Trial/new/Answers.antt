@@ -1,0 +1,99 @@
+use Rattle.std.proofs.Common.{◌≡◌, ◌∙◌, sym, ap, subst, ◌<◌, ◌+◌, ◌++◌, List, ℕ, length, take, drop, get_or, arith}
+use Rattle.std.specs.Prelude.{Some, slice_get, ◌-◌}
+use Rattle.std.proofs.lemmas.List.{take_all, take_more, take-append-drop, length-take-le}
+use Rattle.clauses.specs.Problem.{ClauseProblem}
+use Rattle.propagation.specs.Propagation.{Propagation, propagated}
+use Rattle.clauses.specs.Closure.{clash}
+use Rattle.solver.proofs.RootLaws.{AreAssumed, assumed-none, assumed-next, new-clash, next-clash, items-few, item-bounds, root-below, trial-start, begins, clash-from_not, calm-from_not}
+use Rattle.solver.proofs.trial.Trial.new.Goals as goal
+
+pub returns-then-clashes : goal.returns-then-clashes
+returns-then-clashes c =
+    new-clash c.args.problem.now c.args.key.now c.in_ok-propagator.propagator c.in_ok-propagator.ensures.problem c.in_ok-propagator.ensures.assumed c.in_ok-propagator.ensures.learned
+    (sym c.clashes.ensures ∙ c.if-clashes.true)
+
+pub loop-position-init : goal.loop-position-init
+loop-position-init c =
+    assumed-none c.args.problem.now c.in_ok-propagator.propagator c.in_ok-propagator.ensures.problem c.in_ok-propagator.ensures.assumed c.in_ok-propagator.ensures.learned
+    (sym c.clashes.ensures ∙ c.if-clashes.false)
+
+pub overflow_sub-position : goal.overflow_sub-position
+overflow_sub-position c =
+    (item-bounds c.args.key.now c.n.ensures.key c.as_slice-position-items.result.now (c.as_slice-position-items.ensures ∙ c.in_ok-positions.ensures) c.loop-position.position-index c.loop-position-test.true).0
+
+pub get-root-requires : goal.get-root-requires
+get-root-requires c =
+    let at = item-bounds c.args.key.now c.n.ensures.key c.as_slice-position-items.result.now (c.as_slice-position-items.ensures ∙ c.in_ok-positions.ensures) c.loop-position.position-index c.loop-position-test.true in
+    let roots = ap (λ (p : ClauseProblem). length p.roots) c.problem.view_is in
+    let count = c.requires in
+    let low = at.0 in
+    let high = at.1 in
+    omega arith
+
+pub assume-requires-clause-calm : goal.assume-requires-clause-calm
+assume-requires-clause-calm c = c.loop-position.invariant.calm
+
+pub assume-requires-clause-variable : goal.assume-requires-clause-variable
+assume-requires-clause-variable c =
+    subst (λ (at : Propagation). c.get-root.result.now.var < at.problem.variables) (sym c.loop-position.invariant.is)
+    (root-below c.args.problem.now c.n-2.ensures.problem (get_or c.as_slice-position-items.result.now c.loop-position.position-index 0 - 1) c.get-root.result.now
+    (subst (λ (p : ClauseProblem). slice_get p.roots (get_or c.as_slice-position-items.result.now c.loop-position.position-index 0 - 1) ≡ Some c.get-root.result.now) c.problem.view_is c.get-root.ensures))
+
+pub assume-requires-clause-few : goal.assume-requires-clause-few
+assume-requires-clause-few c =
+    let few = items-few c.args.key.now c.n.ensures.key c.as_slice-position-items.result.now (c.as_slice-position-items.ensures ∙ c.in_ok-positions.ensures) in
+    let most = c.n.ensures.key.0 in
+    let counted = c.loop-position.invariant.counted in
+    let taken = length-take-le c.loop-position.position-index c.as_slice-position-items.result.now c.loop-position.auto.position-index-end in
+    let inside = c.loop-position-test.true in
+    omega arith
+
+pub returns-then-not-assume : goal.returns-then-not-assume
+returns-then-not-assume c =
+    next-clash c.args.problem.now c.args.key.now c.loop-position.propagator c.assume.new.self (take c.loop-position.position-index c.as_slice-position-items.result.now)
+    (get_or c.as_slice-position-items.result.now c.loop-position.position-index 0) (drop (c.loop-position.position-index + 1) c.as_slice-position-items.result.now) c.get-root.result.now
+    c.loop-position.invariant
+    (subst (λ (p : ClauseProblem). slice_get p.roots (get_or c.as_slice-position-items.result.now c.loop-position.position-index 0 - 1) ≡ Some c.get-root.result.now) c.problem.view_is c.get-root.ensures)
+    c.assume.ensures.assumed
+    (clash-from_not (clash (propagated c.assume.new.self)) c.assume.result c.assume.ensures.calm c.if-not-assume.true)
+    (sym (c.as_slice-position-items.ensures ∙ c.in_ok-positions.ensures)
+    ∙ sym (take-append-drop (c.loop-position.position-index + 1) c.as_slice-position-items.result.now)
+    ∙ ap (λ (front : List ℕ). front ++ drop (c.loop-position.position-index + 1) c.as_slice-position-items.result.now) (take_more c.as_slice-position-items.result.now c.loop-position.position-index 0 c.loop-position-test.true))
+
+pub loop-position-preserved : goal.loop-position-preserved
+loop-position-preserved c =
+    subst (AreAssumed c.args.problem.now c.assume.new.self) (sym (take_more c.as_slice-position-items.result.now c.loop-position.position-index 0 c.loop-position-test.true))
+    (assumed-next c.args.problem.now c.loop-position.propagator c.assume.new.self (take c.loop-position.position-index c.as_slice-position-items.result.now)
+    (get_or c.as_slice-position-items.result.now c.loop-position.position-index 0) c.get-root.result.now c.loop-position.invariant
+    (subst (λ (p : ClauseProblem). slice_get p.roots (get_or c.as_slice-position-items.result.now c.loop-position.position-index 0 - 1) ≡ Some c.get-root.result.now) c.problem.view_is c.get-root.ensures)
+    c.assume.ensures.assumed
+    (calm-from_not (clash (propagated c.assume.new.self)) c.assume.result c.assume.ensures.calm c.if-not-assume.false))
+
+pub overflow_cast-result : goal.overflow_cast-result
+overflow_cast-result c =
+    let few = items-few c.args.key.now c.n.ensures.key c.as_slice-position-items.result.now (c.as_slice-position-items.ensures ∙ c.in_ok-positions.ensures) in
+    let most = c.n.ensures.key.0 in
+    let size = c.len.ensures in
+    let same = ap (λ (xs : List ℕ). length xs) c.as_slice-position-items.ensures in
+    omega arith
+
+pub invariant_of-result : goal.invariant_of-result
+invariant_of-result c =
+    let few = items-few c.args.key.now c.n.ensures.key c.as_slice-position-items.result.now (c.as_slice-position-items.ensures ∙ c.in_ok-positions.ensures) in
+    let most = c.n.ensures.key.0 in
+    let size = c.len.ensures in
+    let same = ap (λ (xs : List ℕ). length xs) c.as_slice-position-items.ensures in
+    trial-start c.args.problem.now c.n-2.ensures.problem c.loop-position.propagator c.as_slice-position-items.result.now c.len.result
+    (subst (AreAssumed c.args.problem.now c.loop-position.propagator) (take_all c.loop-position.position-index c.as_slice-position-items.result.now (let end = c.loop-position-test.false in omega arith)) c.loop-position.invariant)
+    (omega arith)
+    (omega arith)
+
+pub returns : goal.returns
+returns c =
+    let size = c.len.ensures in
+    let same = ap (λ (xs : List ℕ). length xs) c.as_slice-position-items.ensures in
+    begins c.args.problem.now c.n-2.ensures.problem c.loop-position.propagator c.as_slice-position-items.result.now c.len.result
+    (subst (AreAssumed c.args.problem.now c.loop-position.propagator) (take_all c.loop-position.position-index c.as_slice-position-items.result.now (let end = c.loop-position-test.false in omega arith)) c.loop-position.invariant)
+    (omega arith)
+    c.args.key.now
+    (c.as_slice-position-items.ensures ∙ c.in_ok-positions.ensures)

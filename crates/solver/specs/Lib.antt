@@ -1,0 +1,5 @@
+pub mod Answers
+pub mod Searching
+pub mod Stopping
+pub mod TestLaws
+pub mod Trials

@@ -1,0 +1,62 @@
+-- What a search knows between two turns, and what a turn comes to.
+use Rattle.std.specs.Prelude.{◌≡◌, ◌⊎◌, ◌<◌, ◌≤◌, ℕ, IsFalse, IsTrue, All, List, [], ◌∷◌, ◌++◌, length, map, Option, Some, None}
+use Rattle.pref_sets.specs.Preferred.{IsDistinct}
+use Rattle.req_keys.specs.Key.{PositionSet}
+use Rattle.clauses.specs.declared.literal.Lit.{Lit}
+use Rattle.clauses.specs.Clause.{unit_of}
+use Rattle.clauses.specs.Closure.{closure, clash}
+use Rattle.clauses.specs.Problem.{ClauseProblem, clauses_with, roots_at}
+use Rattle.clauses.specs.Search.{SearchAnswer, Sat, Unsat, Limit, Standing, Turn, GoesOn, Ends, turn, under, values_of}
+use Rattle.solver.specs.declared.search.Ending.{Ending}
+use Rattle.solver.specs.declared.search.Ending.TheVariants as ending
+use Rattle.solver.specs.Trials.{Trying, with_false}
+
+-- what is tried, and the decisions
+pub record Searching : Type 0 where
+  pub trial : Trying
+  pub decisions : List ℕ
+
+-- what stands between two turns
+abbrev pub standing : Searching → Standing
+standing at = record { learned = at.trial.learned; decisions = at.decisions }
+
+-- what the search is about: the clauses, and the literals that stay as clauses of their own
+abbrev pub clauses_of : Trying → List (List Lit)
+clauses_of at = at.problem.clauses ++ map unit_of at.fixed
+
+-- what is propagated
+abbrev pub all_under : Searching → List (List Lit)
+all_under at = under (clauses_of at.trial) (standing at)
+
+-- the turn that is due
+abbrev pub turn_of : Searching → Turn
+turn_of at = turn (clauses_of at.trial) at.trial.problem.variables at.trial.problem.allowance (standing at)
+
+-- the decisions are tried, up to the first that clashes
+abbrev pub IsShown : Searching → Type 0
+IsShown at = (untried : List ℕ) × (at.decisions ≡ at.trial.tried ++ untried) × ((untried ≡ []) ⊎ IsTrue (clash (with_false at.trial at.trial.tried)))
+
+-- the answer of a search that ends so
+abbrev pub ended : Searching → Ending → SearchAnswer
+ended at ending.Sat = Sat (values_of at.trial.problem.variables (closure (all_under at)))
+ended at ending.Unsat = Unsat (at.trial.learned ++ [] ∷ [])
+ended at ending.Limit = Limit
+
+-- a turn goes on to what stands now, or ends and changes nothing
+abbrev pub IsTurn : Searching → Searching → Option Ending → Type 0
+IsTurn before now None =
+    (turn_of before ≡ GoesOn (standing now)) × (now.trial.problem ≡ before.trial.problem) × (now.trial.fixed ≡ before.trial.fixed) × IsShown now
+IsTurn before now (Some end) = (turn_of before ≡ Ends (ended before end)) × (now ≡ before) × ((end ≡ ending.Sat) → IsFalse (clash (all_under before)))
+
+-- at the start, unless the roots of the key clash with the clauses, nothing is learned or decided
+abbrev pub Begins : ClauseProblem → PositionSet → Option Searching → Type 0
+Begins problem key None = IsTrue (clash (clauses_with problem key))
+Begins problem key (Some at) =
+    at ≡ record { trial = record { problem = problem; learned = []; fixed = roots_at problem key; tried = [] }; decisions = [] }
+
+-- what a `Search` keeps: the decisions are distinct variables, and no more is learned than is allowed
+pub record IsSearch (trial : Trying) (decisions : List ℕ) (learned : ℕ) : Type 0 where
+  pub counted : learned ≡ length trial.learned
+  pub allowed : learned ≤ trial.problem.allowance
+  pub distinct : IsDistinct decisions
+  pub below : All (λ variable. variable < trial.problem.variables) decisions

@@ -1,0 +1,227 @@
+//! The turns of a search.
+ghost use Rattle.std.specs.Prelude.{◌≡◌, ◌≢◌, ◌<◌, ◌≤◌, [], ◌∷◌, ◌++◌, All, Contains, IfOk, IfSome, IsFalse, IsTrue, List, ℕ, OnErr, OnOk, length, map, not, reverse, Some, None};
+ghost use Rattle.pref_sets.specs.Preferred.{IsDistinct, IsWithin};
+ghost use Rattle.clauses.specs.Closure.{clash, closure};
+ghost use Rattle.clauses.specs.Problem.{IsProblem};
+ghost use Rattle.clauses.specs.Search.{cut_after, open_variables, some_true, values_of};
+ghost use Rattle.solver.specs.Answers.{meaning};
+ghost use Rattle.solver.specs.Searching.{Begins, IsShown, IsTurn, all_under, ended};
+ghost use Rattle.solver.specs.Trials.{with_false};
+
+use crate::answer::{Answer, Assignment};
+use crate::trial::Trial;
+use clauses::{Clause, Lit, Problem};
+use pref_sets::trim;
+use req_keys::Key;
+use std::alloc::{AllocError, Global};
+use std::marker::Model;
+
+/// How a search ends, without what comes with it.
+#[derive(Clone, Copy, Debug, PartialEq, Eq)]
+pub(crate) enum Ending {
+    Sat,
+    Unsat,
+    Limit,
+}
+
+/// A search between two turns.
+#[derive(Drop)]
+pub(crate) struct Search<'a> {
+    trial: Trial<'a>,
+    /// The variables that are decided false, in order. The trial has them up to the first that clashes.
+    decisions: Vec<u32>,
+    /// How many clauses are learned.
+    learned: u64,
+}
+
+impl<'a> Model for Search<'a> {
+    ghost use Rattle.solver.specs.Searching.{IsSearch, Searching};
+
+    ghost Value = { Searching };
+
+    ghost view = { λ a. record { trial = a.trial; decisions = a.decisions.items } };
+
+    ghost invariant = { λ a. IsSearch a.trial a.decisions.items a.learned };
+}
+
+impl<'a> Search<'a> {
+    /// Nothing is learned or decided. None where the roots of the key clash with the clauses.
+    pub fn new(
+        alloc: Global,
+        problem: &'a Problem,
+        key: &Key,
+    ) -> Result<Option<Search<'a>>, AllocError>
+        requires { key.now.n ≡ length problem.now.roots }
+        ensures { IfOk result (Begins problem.now key.now) }
+    {
+        match Trial::new(alloc, problem, key)? {
+            None => Ok(None),
+            Some(trial) => Ok(Some(Search {
+                trial,
+                decisions: Vec::new(alloc),
+                learned: 0,
+            })),
+        }
+    }
+
+    pub fn clashes(&self) -> bool
+        requires { IsShown self.now }
+        ensures { result ≡ clash (all_under self.now) }
+    {
+        self.trial.clashes()
+    }
+
+    /// The lowest variable without a value.
+    fn lowest_open(&self) -> Option<u32>
+        requires shown { IsShown self.now }
+        requires calm { IsFalse (clash (all_under self.now)) }
+        ensures none { result ≡ None → open_variables self.now.trial.problem.variables (closure (all_under self.now)) ≡ [] }
+        ensures some { IfSome result (λ lowest. (others : List ℕ) × (open_variables self.now.trial.problem.variables (closure (all_under self.now)) ≡ lowest ∷ others)) }
+    {
+        for variable in 0..self.trial.problem().variables {
+            if self.trial.value(variable).is_none() {
+                return Some(variable);
+            }
+        }
+        None
+    }
+
+    /// A turn without a clash: the lowest variable without a value is decided false.
+    pub fn turn_at_rest(&mut self) -> Result<Option<Ending>, AllocError>
+        requires shown { IsShown self.old }
+        requires calm { IsFalse (clash (all_under self.old)) }
+        ensures { IfOk result (IsTurn self.old self.new) }
+    {
+        match self.lowest_open() {
+            None => Ok(Some(Ending::Sat)),
+            Some(variable) => {
+                self.decide(variable)?;
+                Ok(None)
+            }
+        }
+    }
+
+    fn decide(&mut self, variable: u32) -> Result<(), AllocError>
+        requires shown { IsShown self.old }
+        requires calm { IsFalse (clash (all_under self.old)) }
+        requires variable { variable < self.old.trial.problem.variables }
+        requires new { ¬ Contains self.old.decisions variable }
+        ensures trial { OnOk result (self.new.trial ≡ record self.old.trial { tried = self.old.decisions ++ variable ∷ [] }) }
+        ensures decisions { OnOk result (self.new.decisions ≡ self.old.decisions ++ variable ∷ []) }
+    {
+        self.decisions.push(variable)?;
+        self.trial.decide(variable);
+        Ok(())
+    }
+
+    /// A turn with a clash: something is learned from it, if there is a decision and more may be learned.
+    pub fn turn_at_clash(&mut self, alloc: Global) -> Result<Option<Ending>, AllocError>
+        requires shown { IsShown self.old }
+        requires clash { IsTrue (clash (all_under self.old)) }
+        ensures { IfOk result (IsTurn self.old self.new) }
+    {
+        if self.decisions.is_empty() {
+            return Ok(Some(Ending::Unsat));
+        }
+        if self.learned == self.trial.problem().allowance {
+            return Ok(Some(Ending::Limit));
+        }
+        let trimmed = trim(alloc, &mut self.trial, &self.decisions)?;
+        self.learn(alloc, trimmed.as_slice())?;
+        Ok(None)
+    }
+
+    /// Learns that these decisions aren't all false, and goes back to before the last of them but one.
+    fn learn(&mut self, alloc: Global, trimmed: &[u32]) -> Result<(), AllocError>
+        requires part { IsWithin trimmed.now self.old.decisions }
+        requires allowed { length self.old.trial.learned < self.old.trial.problem.allowance }
+        requires lawful { IsProblem self.old.trial.problem }
+        ensures decisions { OnOk result (self.new.decisions ≡ cut_after self.old.decisions (reverse trimmed.now)) }
+        ensures learned { OnOk result (self.new.trial.learned ≡ self.old.trial.learned ++ some_true trimmed.now ∷ []) }
+        ensures problem { self.new.trial.problem ≡ self.old.trial.problem }
+        ensures fixed { self.new.trial.fixed ≡ self.old.trial.fixed }
+        ensures shown { OnOk result (IsShown self.new) }
+    {
+        let clause = some_true(alloc, trimmed)?;
+        self.trial.learn(clause.as_slice())?;
+        self.learned += 1;
+        cut(&mut self.decisions, trimmed);
+        try_all(&mut self.trial, &self.decisions);
+        Ok(())
+    }
+
+    /// The answer of a search that ended so.
+    pub fn into_answer(self, alloc: Global, ending: Ending) -> Result<Answer, AllocError>
+        requires shown { IsShown self }
+        requires calm { ending ≡ Ending.Sat → IsFalse (clash (all_under self)) }
+        ensures { IfOk result (λ answer. meaning answer ≡ ended self.entry ending) }
+    {
+        match ending {
+            Ending::Sat => Ok(Answer::Sat(self.values(alloc)?)),
+            Ending::Limit => Ok(Answer::Limit),
+            Ending::Unsat => {
+                let Search { trial, .. } = self;
+                let mut derivation = trial.into_learned();
+                derivation.push(Clause::new(alloc))?;
+                Ok(Answer::Unsat(derivation))
+            }
+        }
+    }
+
+    fn values(&self, alloc: Global) -> Result<Assignment, AllocError>
+        requires shown { IsShown self.now }
+        requires calm { IsFalse (clash (all_under self.now)) }
+        ensures { IfOk result (λ values. values ≡ values_of self.now.trial.problem.variables (closure (all_under self.now))) }
+    {
+        let mut values = Assignment::new(alloc);
+        for variable in 0..self.trial.problem().variables {
+            values.push(self.trial.value(variable) == Some(true))?;
+        }
+        Ok(values)
+    }
+}
+
+/// The clause that says that one of the variables is true.
+fn some_true(alloc: Global, variables: &[u32]) -> Result<Clause, AllocError>
+    ensures { IfOk result (λ clause. clause ≡ some_true variables.now) }
+{
+    let mut clause = Clause::new(alloc);
+    for variable in variables {
+        clause.push(Lit {
+            var: *variable,
+            positive: true,
+        })?;
+    }
+    Ok(clause)
+}
+
+/// Keeps the decisions up to the last of the trimmed ones but one, and none where there is no such one.
+fn cut(decisions: &mut Vec<u32>, trimmed: &[u32])
+    ensures { decisions.new.items ≡ cut_after decisions.old.items (reverse trimmed.now) }
+{
+    let count = trimmed.len();
+    if count < 2 {
+        decisions.clear();
+        return;
+    }
+    let before = trimmed[count - 2];
+    if let Some(place) = decisions.iter().position(|decision| *decision == before) {
+        decisions.truncate(place + 1);
+    }
+}
+
+/// Tries the decisions alone, up to the first that clashes.
+fn try_all(trial: &mut Trial<'_>, decisions: &[u32])
+    requires distinct { IsDistinct decisions.now }
+    requires below { All (λ variable. variable < trial.old.problem.variables) decisions.now }
+    ensures same { trial.new ≡ record trial.old { tried = trial.new.tried } }
+    ensures shown { IsShown (record { trial = trial.new; decisions = decisions.now }) }
+{
+    trial.reset();
+    for variable in decisions {
+        if trial.clashes() {
+            return;
+        }
+        trial.decide(*variable);
+    }
+}

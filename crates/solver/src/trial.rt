@@ -1,0 +1,187 @@
+//! Trying which decisions clash together.
+ghost use Rattle.std.specs.Prelude.{◌≡◌, ◌<◌, ℕ, [], ◌∷◌, ◌++◌, Contains, IfOk, IsFalse, IsTrue, OnErr, OnOk, All, length, not};
+ghost use Rattle.pref_sets.specs.Preferred.{IsWithin};
+ghost use Rattle.clauses.specs.Clause.{negative_of};
+ghost use Rattle.clauses.specs.Closure.{clash, closure};
+ghost use Rattle.clauses.specs.Problem.{IsBelow, IsProblem};
+ghost use Rattle.propagation.specs.Propagation.{value_of};
+ghost use Rattle.solver.specs.Trials.{Clashes, SameButTried, Starts, variables_in, with_false};
+
+use clauses::{Clauses, Lit, Problem};
+use pref_sets::MonotoneTest;
+use propagation::Propagator;
+use req_keys::Key;
+use std::alloc::{AllocError, Global};
+use std::marker::Model;
+
+/// A propagator whose first assumed literals stay; behind them variables are tried as false.
+#[derive(Drop)]
+pub(crate) struct Trial<'a> {
+    problem: &'a Problem,
+    propagator: Propagator<'a>,
+    /// How many of the assumed literals stay.
+    fixed: u32,
+}
+
+impl<'a> Model for Trial<'a> {
+    ghost use Rattle.std.specs.Prelude.{take};
+    ghost use Rattle.solver.specs.Trials.{IsTrial, Trying, tried_of};
+
+    ghost Value = { Trying };
+
+    ghost view = { λ a. record { problem = a.problem.now; learned = a.propagator.learned; fixed = take a.fixed a.propagator.assumed; tried = tried_of a.propagator a.fixed } };
+
+    ghost invariant = { λ a. IsTrial a.problem.now a.propagator a.fixed };
+}
+
+impl<'a> Trial<'a> {
+    /// The roots of the key are assumed and stay. None where they clash with the clauses.
+    pub fn new(
+        alloc: Global,
+        problem: &'a Problem,
+        key: &Key,
+    ) -> Result<Option<Trial<'a>>, AllocError>
+        requires { key.now.n ≡ length problem.now.roots }
+        ensures { IfOk result (Starts problem.now key.now) }
+    {
+        let same = key.n() == problem.n();
+        prove!(same);
+        let mut propagator = Propagator::new(alloc, problem)?;
+        if propagator.clashes() {
+            return Ok(None);
+        }
+        let positions = key.positions()?;
+        for position in positions.as_slice() {
+            let root = *problem.roots.get((*position - 1) as usize);
+            if !propagator.assume(root) {
+                return Ok(None);
+            }
+        }
+        Ok(Some(Trial {
+            problem,
+            propagator,
+            fixed: positions.len() as u32,
+        }))
+    }
+
+    /// The problem that is searched.
+    pub fn problem(&self) -> &'a Problem
+        ensures problem { result.now ≡ self.now.problem }
+        ensures lawful { IsProblem self.now.problem }
+    {
+        self.problem
+    }
+
+    /// Whether what is tried clashes.
+    pub fn clashes(&self) -> bool
+        ensures { result ≡ clash (with_false self.now self.now.tried) }
+    {
+        self.propagator.clashes()
+    }
+
+    pub fn value(&self, variable: u32) -> Option<bool>
+        requires calm { IsFalse (clash (with_false self.now self.now.tried)) }
+        requires variable { variable < self.now.problem.variables }
+        ensures { result ≡ value_of (with_false self.now self.now.tried) variable }
+    {
+        self.propagator.value(variable)
+    }
+
+    /// Nothing is tried any more.
+    pub fn reset(&mut self)
+        ensures { self.new ≡ record self.old { tried = [] } }
+    {
+        self.propagator.back_to(self.fixed);
+    }
+
+    pub fn learn(&mut self, clause: &[Lit]) -> Result<(), AllocError>
+        requires { All (IsBelow self.old.problem.variables) clause.now }
+        ensures ok { OnOk result (self.new ≡ record self.old { learned = self.old.learned ++ clause.now ∷ [] }) }
+        ensures err { OnErr result (self.new ≡ self.old) }
+    {
+        self.propagator.learn(clause)?;
+        Ok(())
+    }
+
+    /// Tries another variable as false, and answers whether nothing clashes.
+    pub fn decide(&mut self, variable: u32) -> bool
+        requires calm { IsFalse (clash (with_false self.old self.old.tried)) }
+        requires variable { variable < self.old.problem.variables }
+        requires new { ¬ Contains self.old.tried variable }
+        ensures tried { self.new ≡ record self.old { tried = self.old.tried ++ variable ∷ [] } }
+        ensures calm { result ≡ not (clash (with_false self.new self.new.tried)) }
+    {
+        self.propagator.assume(Lit {
+            var: variable,
+            positive: false,
+        })
+    }
+
+    /// Sees to it that the variable is false, and answers whether nothing clashes.
+    fn is_false_too(&mut self, variable: u32) -> bool
+        requires calm { IsFalse (clash (with_false self.old self.old.tried)) }
+        requires variable { variable < self.old.problem.variables }
+        ensures same { SameButTried self.old self.new }
+        ensures within { IsWithin self.new.tried (self.old.tried ++ variable ∷ []) }
+        ensures more { IsWithin self.old.tried self.new.tried }
+        ensures negative { IsTrue result → Contains (closure (with_false self.new self.new.tried)) (negative_of variable) }
+        ensures calm { IsTrue result → IsFalse (clash (with_false self.new self.new.tried)) }
+        ensures clash { IsFalse result → IsTrue (clash (with_false self.old (self.old.tried ++ variable ∷ []))) }
+    {
+        match self.value(variable) {
+            Some(value) => !value,
+            None => self.decide(variable),
+        }
+    }
+
+    /// The same for any number; one that is no variable changes nothing.
+    fn try_number(&mut self, number: u32) -> bool
+        requires { IsFalse (clash (with_false self.old self.old.tried)) }
+        ensures same { SameButTried self.old self.new }
+        ensures within { IsWithin self.new.tried (self.old.tried ++ variables_in self.old.problem (number ∷ [])) }
+        ensures more { IsWithin self.old.tried self.new.tried }
+        ensures negative { IsTrue result → (variable : ℕ) → Contains (variables_in self.old.problem (number ∷ [])) variable → Contains (closure (with_false self.new self.new.tried)) (negative_of variable) }
+        ensures calm { IsTrue result → IsFalse (clash (with_false self.new self.new.tried)) }
+        ensures clash { IsFalse result → IsTrue (clash (with_false self.old (self.old.tried ++ variables_in self.old.problem (number ∷ [])))) }
+    {
+        if number >= self.problem().variables {
+            return true;
+        }
+        self.is_false_too(number)
+    }
+
+    /// The learned clauses, in their order.
+    pub fn into_learned(self) -> Clauses
+        ensures { result ≡ self.entry.learned }
+    {
+        let Trial { propagator, .. } = self;
+        propagator.into_learned()
+    }
+}
+
+impl MonotoneTest for Trial<'_> {
+    ghost use Rattle.solver.specs.TestLaws.{clashes-monotone, same-reflexive, same-transitive};
+
+    ghost yes = { Clashes };
+
+    ghost stays = { SameButTried };
+
+    ghost monotone = { clashes-monotone };
+
+    ghost reflexive = { same-reflexive };
+
+    ghost transitive = { same-transitive };
+
+    fn holds(&mut self, set: &[u32]) -> Result<bool, AllocError> {
+        self.reset();
+        if self.clashes() {
+            return Ok(true);
+        }
+        for number in set {
+            if !self.try_number(*number) {
+                return Ok(true);
+            }
+        }
+        Ok(false)
+    }
+}
