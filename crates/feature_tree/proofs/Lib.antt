@@ -1,6 +1,13 @@
 pub mod Changes
+pub mod Completeness
 pub mod Decided
+pub mod DescentSteps
+pub mod FormulaLaws
 pub mod Formulas
+pub mod Heights
 pub mod NumberedLaws
 pub mod Products
+pub mod ReadFormulaLaws
+pub mod ReadNameLaws
+pub mod Scanning
 pub mod Trees

@@ -1,6 +1,8 @@
 ghost use Rattle.feature_tree.specs.Names.{TruthRestsOnNames};
 ghost use Rattle.feature_tree.specs.Consistent.{ConsistentIsMonotone};
 ghost use Rattle.feature_tree.specs.Decided.{ProductIsDecided, ConsistentIsDecided};
+ghost use Rattle.feature_tree.specs.ReadFormulas.{ReadFormulasAreFull, ReadNamesAreNames};
+ghost use Rattle.feature_tree.specs.Refusals.{OneReading, OneAnswer};
 
 /// A formula has the same truth in two sets that agree on its names.
 pub fn truth_rests_on_names()
@@ -20,4 +22,24 @@ pub fn product_is_decided()
 /// The test that tries every set says which lists of formulas are consistent.
 pub fn consistent_is_decided()
     ensures { ConsistentIsDecided }
+{}
+
+/// A list of tokens has at most one formula, with one height.
+pub fn one_reading()
+    ensures { OneReading }
+{}
+
+/// A list of tokens has exactly one answer beside want of memory: its formula, or one of the three refusals.
+pub fn one_answer()
+    ensures { OneAnswer }
+{}
+
+/// Each `All` and each `Any` of a formula that was read has two or more parts.
+pub fn read_formulas_are_full()
+    ensures { ReadFormulasAreFull }
+{}
+
+/// Each name in a formula that was read is the number of a token that is a name, so it is below the count of the tokens.
+pub fn read_names_are_names()
+    ensures { ReadNamesAreNames }
 {}

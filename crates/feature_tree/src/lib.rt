@@ -1,9 +1,10 @@
 //! Feature models as UVL has them: a tree of features in groups, with formulas across it.
 //!
 //! A `Model` is made of a `Tree`, which grows feature by feature in the order of a file, and of its constraints. Its one
-//! question is `Model::is_product`; that of a `Formula` is `holds`. A layer above may rely on it that every `Model` is
-//! well formed, that a set is a product exactly where `is_product` says so, and that the tests of `specs/Decided.antt`,
-//! which compute, agree with the definitions of product and consistency (`product_is_decided`, `consistent_is_decided`).
+//! question is `Model::is_product`; that of a `Formula` is `holds`. `formula_of` reads a formula from tokens. A layer above
+//! may rely on it that every `Model` is well formed, that a set is a product exactly where `is_product` says so, that the
+//! tests of `specs/Decided.antt`, which compute, agree with the definitions of product and consistency
+//! (`product_is_decided`, `consistent_is_decided`), and that a list of tokens has one answer (`one_answer`).
 #![tactic(auto)]
 
 mod feature;
@@ -12,6 +13,7 @@ mod group;
 mod laws;
 mod model;
 mod numbered;
+mod reader;
 mod row;
 mod text;
 mod tree;
@@ -20,10 +22,12 @@ pub use feature::{Feature, Features};
 pub use formula::{Formula, Formulas, all_hold};
 pub use group::{Group, GroupKind, Groups};
 pub use laws::{
-    consistent_is_decided, consistent_is_monotone, product_is_decided, truth_rests_on_names,
+    consistent_is_decided, consistent_is_monotone, one_answer, one_reading, product_is_decided,
+    read_formulas_are_full, read_names_are_names, truth_rests_on_names,
 };
 pub use model::Model;
 pub use numbered::numbered_keeps_truth;
+pub use reader::{FormulaError, formula_of};
 pub use row::{Numbers, Row};
 pub use sqlite_items::Boxed;
 pub use text::Text;

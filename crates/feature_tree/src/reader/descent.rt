@@ -1,0 +1,139 @@
+//! Reads tokens that are known to be a formula. It descends only where the height grows, by `!` and `(`; a chain is a loop.
+ghost use Rattle.std.specs.Prelude.{◌≡◌, ◌^◌, ◌+◌, ◌<◌, ◌≤◌, length, slice_get, IfSome, IfOk, IsTrue};
+ghost use Rattle.feature_tree.specs.Roles.{roles_of};
+ghost use Rattle.feature_tree.specs.Grammar.{chain, unary, member_of};
+ghost use Rattle.feature_tree.specs.Descent.{Answers, read, joins_at, closed, IsPast};
+
+use crate::reader::error::FormulaError;
+use crate::reader::part::{Reading, joined};
+use crate::reader::role::{Level, Role};
+use std::alloc::Global;
+use uvl_lex::Token;
+
+/// A part that was read, and the number of the token after it.
+#[derive(Debug, Drop)]
+pub(crate) struct Found {
+    pub reading: Reading,
+    pub after: usize,
+}
+
+/// The role of the token with this number.
+pub(crate) fn role_at(tokens: &[Token], at: usize) -> Option<Role>
+    ensures role { result ≡ slice_get (roles_of tokens.now) at }
+    ensures within { IfSome result (λ _. at < length tokens.now) }
+{
+    let token = tokens.get(at)?;
+    Some(Role::of(token.kind))
+}
+
+/// Whether the token with this number joins members of a chain of this level.
+#[tactic(auto, unfolding(crate::specs::Descent::joins_at))]
+fn joins_at(tokens: &[Token], at: usize, level: Level) -> bool
+    ensures value { result ≡ joins_at (roles_of tokens.now) level at }
+    ensures within { IsTrue result → at < length tokens.now }
+{
+    match role_at(tokens, at) {
+        Some(role) => role.joins(level),
+        None => false,
+    }
+}
+
+/// The part with the parentheses round it, of which the first stands before it.
+#[tactic(auto, unfolding(crate::specs::Descent::closed))]
+fn closed(tokens: &[Token], part: Found) -> Result<Found, FormulaError>
+    requires { part.reading.height + 1 < 2 ^ 32 }
+    ensures answers { Answers result (closed (roles_of tokens.now) part) }
+    ensures past { IfOk result (λ whole. (whole.after ≡ part.after + 1) × (whole.after ≤ length tokens.now)) }
+    ensures height { IfOk result (λ whole. whole.reading.height ≡ part.reading.height + 1) }
+{
+    let Found { reading, after } = part;
+    match role_at(tokens, after) {
+        Some(Role::Closes) => Ok(Found {
+            reading: reading.enclosed(),
+            after: after + 1,
+        }),
+        _ => Err(FormulaError::BadFormula),
+    }
+}
+
+/// Reads a `not`, of a height of at most `room`.
+#[cycle(descent)]
+fn read_not(alloc: Global, tokens: &[Token], at: usize, room: u32) -> Result<Found, FormulaError>
+    requires few { length tokens.now < 2 ^ 32 }
+    requires narrow { room + 1 < 2 ^ 32 }
+    ensures answers { Answers result (read (roles_of tokens.now) unary room at) }
+    ensures past { IfOk result (IsPast room at (length tokens.now)) }
+{
+    if room == 0 {
+        return Err(FormulaError::TooDeep);
+    }
+    match role_at(tokens, at) {
+        Some(Role::Name) => Ok(Found {
+            reading: Reading::named(at as u32),
+            after: at + 1,
+        }),
+        Some(Role::Not) => {
+            let Found { reading, after } = read_not(alloc, tokens, at + 1, room - 1)?;
+            let reading = reading.negated(alloc)?;
+            Ok(Found { reading, after })
+        }
+        Some(Role::Opens) => {
+            let part = read_chain(alloc, tokens, at + 1, Level::Same, room - 1)?;
+            closed(tokens, part)
+        }
+        _ => Err(FormulaError::BadFormula),
+    }
+}
+
+/// Reads a member of a chain of this level.
+#[cycle(descent)]
+fn read_member(
+    alloc: Global,
+    tokens: &[Token],
+    at: usize,
+    level: Level,
+    room: u32,
+) -> Result<Found, FormulaError>
+    requires few { length tokens.now < 2 ^ 32 }
+    requires narrow { room + 1 < 2 ^ 32 }
+    ensures answers { Answers result (read (roles_of tokens.now) (member_of level) room at) }
+    ensures past { IfOk result (IsPast room at (length tokens.now)) }
+{
+    match level {
+        Level::Same => read_chain(alloc, tokens, at, Level::Implies, room),
+        Level::Implies => read_chain(alloc, tokens, at, Level::Any, room),
+        Level::Any => read_chain(alloc, tokens, at, Level::All, room),
+        Level::All => read_not(alloc, tokens, at, room),
+    }
+}
+
+/// Reads a chain of this level.
+#[cycle(descent)]
+pub(crate) fn read_chain(
+    alloc: Global,
+    tokens: &[Token],
+    at: usize,
+    level: Level,
+    room: u32,
+) -> Result<Found, FormulaError>
+    requires few { length tokens.now < 2 ^ 32 }
+    requires narrow { room + 1 < 2 ^ 32 }
+    ensures answers { Answers result (read (roles_of tokens.now) (chain level) room at) }
+    ensures past { IfOk result (IsPast room at (length tokens.now)) }
+{
+    let Found {
+        reading: first,
+        mut after,
+    } = read_member(alloc, tokens, at, level, room)?;
+    let mut others = Vec::new(alloc);
+    'members: while joins_at(tokens, after, level) {
+        let Found {
+            reading,
+            after: end,
+        } = read_member(alloc, tokens, after + 1, level, room)?;
+        others.push(reading)?;
+        after = end;
+    }
+    let reading = joined(alloc, level, first, others, room)?;
+    Ok(Found { reading, after })
+}

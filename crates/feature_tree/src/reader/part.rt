@@ -1,0 +1,157 @@
+//! What has been read of a formula, and how parts are joined.
+ghost use Rattle.std.specs.Prelude.{◌≡◌, ◌^◌, ◌+◌, ◌<◌, ◌≤◌, IfOk, All};
+ghost use Rattle.feature_tree.specs.Grammar.{named, negated, enclosed, paired, in_one_node};
+ghost use Rattle.feature_tree.specs.Descent.{Answers, pair_of, node_of, joined_within, joined_from_the_left, IsLow};
+
+use crate::formula::{Formula, Formulas};
+use crate::reader::error::FormulaError;
+use crate::reader::role::Level;
+use crate::row::Row;
+use sqlite_items::Boxed;
+use std::alloc::{AllocError, Global};
+
+/// A formula, in which each name is the number of its token, with its height.
+#[derive(Debug, Drop)]
+pub(crate) struct Reading {
+    pub formula: Formula,
+    pub height: u32,
+}
+
+impl Reading {
+    pub fn named(token: u32) -> Reading
+        ensures { result ≡ named token }
+    {
+        Reading {
+            formula: Formula::Name(token),
+            height: 1,
+        }
+    }
+
+    pub fn negated(self, alloc: Global) -> Result<Reading, AllocError>
+        requires { self.height + 1 < 2 ^ 32 }
+        ensures { IfOk result (λ whole. whole ≡ negated self) }
+    {
+        let Reading { formula, height } = self;
+        let formula = Formula::Not(Boxed::new(alloc, formula)?);
+        Ok(Reading {
+            formula,
+            height: height + 1,
+        })
+    }
+
+    pub fn into_formula(self) -> Formula
+        ensures { result ≡ self.formula }
+    {
+        let Reading { formula, .. } = self;
+        formula
+    }
+
+    pub fn enclosed(self) -> Reading
+        requires { self.height + 1 < 2 ^ 32 }
+        ensures { result ≡ enclosed self }
+    {
+        let Reading { formula, height } = self;
+        Reading {
+            formula,
+            height: height + 1,
+        }
+    }
+}
+
+/// What is read of a chain with these members, none higher than `room`, unless the whole is.
+pub(crate) fn joined(
+    alloc: Global,
+    level: Level,
+    first: Reading,
+    others: Vec<Reading>,
+    room: u32,
+) -> Result<Reading, FormulaError>
+    requires narrow { room + 1 < 2 ^ 32 }
+    requires first_is_low { IsLow room first }
+    requires others_are_low { All (IsLow room) others.items }
+    ensures answers { Answers result (joined_within room level first others.items) }
+    ensures low { IfOk result (IsLow room) }
+{
+    let whole = match level {
+        Level::Same | Level::Implies => from_the_left(alloc, level, first, others, room)?,
+        Level::Any | Level::All => in_one_node(alloc, level, first, others)?,
+    };
+    if whole.height > room {
+        return Err(FormulaError::TooDeep);
+    }
+    Ok(whole)
+}
+
+/// It ends as soon as the pairs are too high, so that none is ever much higher.
+fn from_the_left(
+    alloc: Global,
+    level: Level,
+    first: Reading,
+    others: Vec<Reading>,
+    room: u32,
+) -> Result<Reading, FormulaError>
+    requires narrow { room + 1 < 2 ^ 32 }
+    requires first_is_low { IsLow room first }
+    requires others_are_low { All (IsLow room) others.items }
+    ensures { Answers result (joined_from_the_left room level first others.items) }
+{
+    let mut whole = first;
+    for next in others {
+        whole = paired(alloc, level, whole, next)?;
+        if whole.height > room {
+            return Err(FormulaError::TooDeep);
+        }
+    }
+    Ok(whole)
+}
+
+fn paired(alloc: Global, level: Level, left: Reading, right: Reading) -> Result<Reading, AllocError>
+    requires left_is_low { left.height + 1 < 2 ^ 32 }
+    requires right_is_low { right.height + 1 < 2 ^ 32 }
+    ensures { IfOk result (λ whole. whole ≡ paired (pair_of level) left right) }
+{
+    let height = left.height.max(right.height) + 1;
+    let Reading { formula, .. } = left;
+    let before = Boxed::new(alloc, formula)?;
+    let Reading { formula, .. } = right;
+    let after = Boxed::new(alloc, formula)?;
+    let formula = match level {
+        Level::Same => Formula::Same(before, after),
+        _ => Formula::Implies(before, after),
+    };
+    Ok(Reading { formula, height })
+}
+
+fn in_one_node(
+    alloc: Global,
+    level: Level,
+    first: Reading,
+    others: Vec<Reading>,
+) -> Result<Reading, AllocError>
+    requires first_is_low { first.height + 1 < 2 ^ 32 }
+    requires others_are_low { All (λ part. part.height + 1 < 2 ^ 32) others.items }
+    ensures { IfOk result (λ whole. whole ≡ in_one_node (node_of level) first others.items) }
+{
+    if others.is_empty() {
+        return Ok(first);
+    }
+    let Reading {
+        formula,
+        mut height,
+    } = first;
+    let mut parts: Formulas = Row::new(alloc);
+    parts.push(formula)?;
+    for next in others {
+        height = height.max(next.height);
+        let Reading { formula, .. } = next;
+        parts.push(formula)?;
+    }
+    let formula = match level {
+        Level::Any => Formula::Any(parts),
+        _ => Formula::All(parts),
+    };
+    Ok(Reading {
+        formula,
+        height: height + 1,
+    })
+}

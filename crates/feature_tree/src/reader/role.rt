@@ -1,0 +1,76 @@
+//! What a token is to a formula.
+ghost use Rattle.std.specs.Prelude.{◌≡◌};
+ghost use Rattle.feature_tree.specs.Roles.{role_of, role_of_mark, joins};
+
+use uvl_lex::{Keyword, Mark, TokenKind};
+
+/// The chains of the grammar, loosest first.
+#[derive(Clone, Copy, Debug, PartialEq, Eq)]
+pub(crate) enum Level {
+    Same,
+    Implies,
+    Any,
+    All,
+}
+
+/// The role that a token has in a formula.
+#[derive(Clone, Copy, Debug, PartialEq, Eq)]
+pub(crate) enum Role {
+    Name,
+    Not,
+    /// It joins the members of a chain.
+    Joins(Level),
+    Opens,
+    Closes,
+    /// No formula has it yet, and it is refused as such.
+    Unsupported,
+    /// No formula has it.
+    Other,
+}
+
+impl Role {
+    pub fn of(kind: TokenKind) -> Role
+        ensures { result ≡ role_of kind }
+    {
+        match kind {
+            TokenKind::Name | TokenKind::Quoted => Role::Name,
+            TokenKind::Text | TokenKind::Number => Role::Unsupported,
+            TokenKind::Keyword(Keyword::True | Keyword::False) => Role::Unsupported,
+            TokenKind::Keyword(_) => Role::Other,
+            TokenKind::Mark(mark) => Role::of_mark(mark),
+        }
+    }
+
+    fn of_mark(mark: Mark) -> Role
+        ensures { result ≡ role_of_mark mark }
+    {
+        match mark {
+            Mark::Iff => Role::Joins(Level::Same),
+            Mark::Then => Role::Joins(Level::Implies),
+            Mark::Bar => Role::Joins(Level::Any),
+            Mark::Amp => Role::Joins(Level::All),
+            Mark::Bang => Role::Not,
+            Mark::OpenRound => Role::Opens,
+            Mark::CloseRound => Role::Closes,
+            Mark::Dot | Mark::Plus | Mark::Minus | Mark::Star | Mark::Slash => Role::Unsupported,
+            Mark::Less | Mark::Greater | Mark::AtMost | Mark::AtLeast => Role::Unsupported,
+            Mark::Equal | Mark::Unequal | Mark::Assign => Role::Unsupported,
+            Mark::Dots | Mark::Comma | Mark::Colon | Mark::Semicolon => Role::Other,
+            Mark::OpenSquare | Mark::CloseSquare => Role::Other,
+            Mark::OpenCurly | Mark::CloseCurly => Role::Other,
+        }
+    }
+
+    /// Whether the token joins members of a chain of this level.
+    pub fn joins(self, level: Level) -> bool
+        ensures { result ≡ joins level self }
+    {
+        matches!(
+            (self, level),
+            (Role::Joins(Level::Same), Level::Same)
+                | (Role::Joins(Level::Implies), Level::Implies)
+                | (Role::Joins(Level::Any), Level::Any)
+                | (Role::Joins(Level::All), Level::All)
+        )
+    }
+}
