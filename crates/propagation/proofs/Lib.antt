@@ -2,3 +2,4 @@ pub mod ValueLaws
 pub mod EffectLaws
 pub mod ScanLaws
 pub mod GrowthLaws
+pub mod RootLaws

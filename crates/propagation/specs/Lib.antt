@@ -1,4 +1,5 @@
 pub mod Propagation
+pub mod Roots
 pub mod Values
 pub mod UpToDate
 pub mod Examples

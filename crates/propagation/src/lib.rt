@@ -6,11 +6,13 @@
 
 mod laws;
 mod propagator;
+mod roots;
 mod scan;
 mod values;
 
 pub use laws::{clauses_in_any_order, propagated_as_searched, values_are_of_the_closure};
 pub use propagator::Propagator;
+pub use roots::with_roots;
 
 #[cfg(test)]
 mod tests;

@@ -3,8 +3,9 @@
 ghost use Rattle.std.specs.Prelude.{◌≡◌, ◌<◌, All, IfOk};
 ghost use Rattle.clauses.specs.Problem.{IsBelow};
 
-use crate::Propagator;
+use crate::{Propagator, with_roots};
 use clauses::{Clause, Clauses, Lit, Lits, Problem};
+use req_keys::Key;
 use std::alloc::{AllocError, Global};
 
 fn literal_of(letter: u8) -> Lit
@@ -221,5 +222,26 @@ fn learned_clauses_stay(rt: HostRuntime) -> Result<(), AllocError> {
     propagator.back_to(0);
     assert!(rt; propagator.clashes());
     assert!(rt; propagator.into_learned().len() == 1);
+    Ok(())
+}
+
+#[test]
+fn roots_are_assumed(rt: HostRuntime) -> Result<(), AllocError> {
+    let mut roots = Lits::new(rt.alloc());
+    roots.push(literal_of(b'a'))?;
+    roots.push(literal_of(b'B'))?;
+    let problem = Problem {
+        variables: 4,
+        features: 4,
+        clauses: Clauses::new(rt.alloc()),
+        roots,
+        allowance: 0,
+    };
+    let key = Key::full(rt.alloc(), problem.n())?;
+    let Some(propagator) = with_roots(rt.alloc(), &problem, &key)? else {
+        assert!(rt; false, "they don't clash");
+        return Ok(());
+    };
+    assert!(rt; signs_of(&propagator) == *b"10--");
     Ok(())
 }

@@ -1,4 +1,3 @@
-pub mod RootLaws
 pub mod SearchLaws
 pub mod SolveLaws
 pub mod TrialLaws

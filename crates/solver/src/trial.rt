@@ -9,7 +9,7 @@ ghost use Rattle.solver.specs.Trials.{Clashes, SameButTried, Starts, variables_i
 
 use clauses::{Clauses, Lit, Problem};
 use pref_sets::MonotoneTest;
-use propagation::Propagator;
+use propagation::{Propagator, with_roots};
 use req_keys::Key;
 use std::alloc::{AllocError, Global};
 use std::marker::Model;
@@ -46,22 +46,14 @@ impl<'a> Trial<'a> {
     {
         let same = key.n() == problem.n();
         prove!(same);
-        let mut propagator = Propagator::new(alloc, problem)?;
-        if propagator.clashes() {
-            return Ok(None);
+        match with_roots(alloc, problem, key)? {
+            None => Ok(None),
+            Some(propagator) => Ok(Some(Trial {
+                problem,
+                propagator,
+                fixed: key.len(),
+            })),
         }
-        let positions = key.positions()?;
-        for position in positions.as_slice() {
-            let root = *problem.roots.get((*position - 1) as usize);
-            if !propagator.assume(root) {
-                return Ok(None);
-            }
-        }
-        Ok(Some(Trial {
-            problem,
-            propagator,
-            fixed: positions.len() as u32,
-        }))
     }
 
     /// The problem that is searched.

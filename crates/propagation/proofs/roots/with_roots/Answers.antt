@@ -4,8 +4,8 @@ use Rattle.std.proofs.lemmas.List.{take_all, take_more, take-append-drop, length
 use Rattle.clauses.specs.Problem.{ClauseProblem}
 use Rattle.propagation.specs.Propagation.{Propagation, propagated}
 use Rattle.clauses.specs.Closure.{clash}
-use Rattle.solver.proofs.RootLaws.{AreAssumed, assumed-none, assumed-next, new-clash, next-clash, items-few, item-bounds, root-below, trial-start, begins, clash-from_not, calm-from_not}
-use Rattle.solver.proofs.trial.Trial.new.Goals as goal
+use Rattle.propagation.proofs.RootLaws.{AreAssumed, assumed-none, assumed-next, new-clash, next-clash, items-few, item-bounds, root-below, rooted-all, clash-from_not, calm-from_not}
+use Rattle.propagation.proofs.roots.with_roots.Goals as goal
 
 pub returns-then-clashes : goal.returns-then-clashes
 returns-then-clashes c =
@@ -69,31 +69,7 @@ loop-position-preserved c =
     c.assume.ensures.assumed
     (calm-from_not (clash (propagated c.assume.new.self)) c.assume.result c.assume.ensures.calm c.if-not-assume.false))
 
-pub overflow_cast-result : goal.overflow_cast-result
-overflow_cast-result c =
-    let few = items-few c.args.key.now c.n.ensures.key c.as_slice-position-items.result.now (c.as_slice-position-items.ensures ∙ c.in_ok-positions.ensures) in
-    let most = c.n.ensures.key.0 in
-    let size = c.len.ensures in
-    let same = ap (λ (xs : List ℕ). length xs) c.as_slice-position-items.ensures in
-    omega arith
-
-pub invariant_of-result : goal.invariant_of-result
-invariant_of-result c =
-    let few = items-few c.args.key.now c.n.ensures.key c.as_slice-position-items.result.now (c.as_slice-position-items.ensures ∙ c.in_ok-positions.ensures) in
-    let most = c.n.ensures.key.0 in
-    let size = c.len.ensures in
-    let same = ap (λ (xs : List ℕ). length xs) c.as_slice-position-items.ensures in
-    trial-start c.args.problem.now c.n-2.ensures.problem c.loop-position.propagator c.as_slice-position-items.result.now c.len.result
-    (subst (AreAssumed c.args.problem.now c.loop-position.propagator) (take_all c.loop-position.position-index c.as_slice-position-items.result.now (let end = c.loop-position-test.false in omega arith)) c.loop-position.invariant)
-    (omega arith)
-    (omega arith)
-
 pub returns : goal.returns
 returns c =
-    let size = c.len.ensures in
-    let same = ap (λ (xs : List ℕ). length xs) c.as_slice-position-items.ensures in
-    begins c.args.problem.now c.n-2.ensures.problem c.loop-position.propagator c.as_slice-position-items.result.now c.len.result
+    rooted-all c.args.problem.now c.args.key.now c.as_slice-position-items.result.now (c.as_slice-position-items.ensures ∙ c.in_ok-positions.ensures) c.n.ensures.key c.loop-position.propagator
     (subst (AreAssumed c.args.problem.now c.loop-position.propagator) (take_all c.loop-position.position-index c.as_slice-position-items.result.now (let end = c.loop-position-test.false in omega arith)) c.loop-position.invariant)
-    (omega arith)
-    c.args.key.now
-    (c.as_slice-position-items.ensures ∙ c.in_ok-positions.ensures)

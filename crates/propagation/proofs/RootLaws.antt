@@ -1,23 +1,22 @@
 -- The roots of a key, assumed one by one.
-use Rattle.std.proofs.Common.{◌≡◌, ◌∙◌, refl, sym, ap, subst, ⊎_elim, ℕ, zero, suc, ◌+◌, ◌<◌, ◌≤◌, Bool, true, false, not, List, [], ◌∷◌, ◌++◌, length, map, take, drop, get_or, All, arith}
+use Rattle.std.proofs.Common.{◌≡◌, ◌∙◌, refl, sym, ap, subst, ⊎_elim, ℕ, zero, suc, ◌+◌, ◌<◌, ◌≤◌, Bool, true, false, not, List, [], ◌∷◌, ◌++◌, length, map, get_or, arith}
 use Rattle.std.specs.Prelude.{◌-◌, Contains, filter_map, slice_get, Option, Some}
 use Rattle.std.specs.List.{cons_option}
-use Rattle.std.proofs.lemmas.List.{take_all, drop_all, length_push}
+use Rattle.std.proofs.lemmas.List.{length_push}
 use Rattle.std.proofs.lemmas.Bool.{true≢false}
-use Rattle.std.proofs.lemmas.List.Elements.{All-nil, Contains-append_left, Contains-append_right, Contains-append_cases, filter_map-append}
+use Rattle.std.proofs.lemmas.List.Elements.{Contains-append_left, Contains-append_right, Contains-append_cases, filter_map-append}
 use Rattle.std.proofs.lemmas.Option.{slice_get_within, get_or_from_slice_get}
-use Rattle.pref_sets.specs.Preferred.{IsDistinct}
 use Rattle.req_keys.specs.Key.{PositionSet, IsKey}
 use Rattle.req_keys.specs.Positions.{RiseWithin}
 use Rattle.clauses.specs.declared.literal.Lit.{Lit}
-use Rattle.clauses.specs.Clause.{negative_of, unit_of}
+use Rattle.clauses.specs.Clause.{unit_of}
 use Rattle.clauses.specs.Closure.{clash}
 use Rattle.clauses.specs.Problem.{ClauseProblem, IsProblem, clauses_with, roots_at}
 use Rattle.clauses.proofs.Members.{none, from_map, to_map}
 use Rattle.clauses.proofs.LeastLaws.{clash-among}
 use Rattle.propagation.specs.Propagation.{Propagation, all_of, propagated}
+use Rattle.propagation.specs.Roots.{AreRooted}
 use Rattle.propagation.proofs.ValueLaws.{part-among}
-use Rattle.solver.specs.Trials.{Trying, IsTrial, tried_of}
 
 -- ---- positions that ascend
 
@@ -123,38 +122,6 @@ pub root-below : (problem : ClauseProblem) → IsProblem problem → (k : ℕ) (
 root-below problem is k root e =
     subst (λ (l : Lit). l.var < problem.variables) (get_or_from_slice_get problem.roots k root root e) (is.roots_below k root (slice_get_within problem.roots k root e))
 
-module _ (problem : ClauseProblem) (lawful : IsProblem problem) (at : Propagation) (positions : List ℕ) (fixed : ℕ) (are : AreAssumed problem at positions) (count : fixed ≡ length positions) where
-  all_fixed : length at.assumed ≤ fixed
-  all_fixed = let counted = are.counted in omega arith
-
-  nothing_tried : drop fixed at.assumed ≡ []
-  nothing_tried = drop_all fixed at.assumed all_fixed
-
-  pub trial-start : fixed ≤ 4096 → IsTrial problem at fixed
-  trial-start few = record {
-    same_problem = ap (λ (p : Propagation). p.problem) are.is;
-    lawful = lawful;
-    within = (let counted = are.counted in omega arith);
-    few = few;
-    negative = nothing_tried ∙ ap (λ (ls : List Lit). map negative_of (map (λ (l : Lit). l.var) ls)) (sym nothing_tried);
-    distinct = subst (λ (ls : List Lit). IsDistinct (map (λ (l : Lit). l.var) ls)) (sym nothing_tried) tt;
-    below = subst (λ (ls : List Lit). All (λ v. v < problem.variables) (map (λ (l : Lit). l.var) ls)) (sym nothing_tried) (All-nil (λ v. v < problem.variables));
-  }
-
-  abbrev started : List (List Lit) → List Lit → List ℕ → Trying
-  started learned fixed_literals tried = record { problem = problem; learned = learned; fixed = fixed_literals; tried = tried }
-
-  pub begins : (key : PositionSet) → positions ≡ key.members
-      → started at.learned (take fixed at.assumed) (tried_of at fixed) ≡ started [] (roots_at problem key) []
-  begins key members =
-      let learned : at.learned ≡ [] = ap (λ (p : Propagation). p.learned) are.is in
-      let roots : take fixed at.assumed ≡ roots_at problem key =
-      take_all fixed at.assumed all_fixed ∙ ap (λ (p : Propagation). p.assumed) are.is ∙ ap (roots_for problem) members in
-      let tried : tried_of at fixed ≡ [] = ap (map (λ (l : Lit). l.var)) nothing_tried in
-      ap (λ known. started known (take fixed at.assumed) (tried_of at fixed)) learned
-      ∙ ap (λ stays. started [] stays (tried_of at fixed)) roots
-      ∙ ap (started [] (roots_at problem key)) tried
-
 pub clash-from_not : (b : Bool) (r : Bool) → r ≡ not b → r ≡ false → b ≡ true
 clash-from_not true r e f = refl
 clash-from_not false r e f = absurd (true≢false (sym e ∙ f))
@@ -162,3 +129,15 @@ clash-from_not false r e f = absurd (true≢false (sym e ∙ f))
 pub calm-from_not : (b : Bool) (r : Bool) → r ≡ not b → r ≡ true → b ≡ false
 calm-from_not true r e t = absurd (true≢false (sym t ∙ e))
 calm-from_not false r e t = refl
+
+-- where the roots of all positions of the key are assumed
+pub rooted-all : (problem : ClauseProblem) (key : PositionSet) (items : List ℕ) → items ≡ key.members → IsKey key → (at : Propagation) → AreAssumed problem at items → AreRooted problem key at
+rooted-all problem key items same is_key at are = record {
+  is = are.is ∙ ap (λ positions. made problem (roots_for problem positions) []) same;
+  counted = are.counted ∙ ap length same;
+  few = (let counted = are.counted in let few = items-few key is_key items same in let most = is_key.0 in omega arith);
+  calm = are.calm;
+}
+  where
+    made : ClauseProblem → List Lit → List (List Lit) → Propagation
+    made about assumed learned = record { problem = about; assumed = assumed; learned = learned }

@@ -1,0 +1,18 @@
+-- The roots of a key as assumed literals.
+use Rattle.std.specs.Prelude.{◌≡◌, ◌≤◌, IsFalse, IsTrue, [], length, Option, Some, None}
+use Rattle.req_keys.specs.Key.{PositionSet}
+use Rattle.clauses.specs.Closure.{clash}
+use Rattle.clauses.specs.Problem.{ClauseProblem, clauses_with, roots_at}
+use Rattle.propagation.specs.Propagation.{Propagation, propagated}
+
+-- the roots of the key are assumed, one for each member, nothing is learned, and nothing clashes
+pub record AreRooted (problem : ClauseProblem) (key : PositionSet) (at : Propagation) : Type 0 where
+  pub is : at ≡ record { problem = problem; assumed = roots_at problem key; learned = [] }
+  pub counted : length at.assumed ≡ length key.members
+  pub few : length at.assumed ≤ 4096
+  pub calm : IsFalse (clash (propagated at))
+
+-- there is such a propagation, unless the roots clash with the clauses
+abbrev pub IsRooted : ClauseProblem → PositionSet → Option Propagation → Type 0
+IsRooted problem key None = IsTrue (clash (clauses_with problem key))
+IsRooted problem key (Some at) = AreRooted problem key at
