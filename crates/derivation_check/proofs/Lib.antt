@@ -1,0 +1,3 @@
+pub mod CheckLaws
+pub mod LineLaws
+pub mod NegationLaws
