@@ -1,4 +1,4 @@
--- What a list of lines is, checked as a derivation by reverse unit propagation.
+-- What a list of lines is, checked as a derivation by reverse unit propagation (Goldberg and Novikov 2003).
 use Rattle.std.specs.Prelude.{◌≡◌, ◌+◌, ◌==◌, ℕ, IsTrue, Bool, true, false, List, [], ◌∷◌, ◌++◌, length, if◌then◌else◌, Option, Some, None}
 use Rattle.std.specs.Option.{option_map}
 use Rattle.clauses.specs.declared.literal.Lit.{Lit}

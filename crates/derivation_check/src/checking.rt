@@ -1,5 +1,5 @@
 //! The check of the lines, one after another.
-ghost use Rattle.std.specs.Prelude.{◌≡◌, ◌↔◌, ◌<◌, ◌≤◌, ◌^◌, ℕ, All, Bool, IfOk, IsTrue, List, ◌∷◌, ◌++◌, [], length, take};
+ghost use Rattle.std.specs.Prelude.{◌≡◌, ◌↔◌, ◌<◌, ◌≤◌, ◌^◌, ℕ, All, Bool, IfOk, IsTrue, List, ◌∷◌, ◌++◌, [], length};
 ghost use Rattle.clauses.specs.Clause.{are_satisfied};
 ghost use Rattle.clauses.specs.Closure.{follows, AreDerived, IsDerivation};
 ghost use Rattle.clauses.specs.Problem.{IsBelow, clauses_with};

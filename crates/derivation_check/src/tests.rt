@@ -1,6 +1,6 @@
 //! Checks over problems of six variables, worked by hand. A letter is a literal: a to f are the variables, in order, and
 //! capital letters their negations. A word is a clause.
-ghost use Rattle.std.specs.Prelude.{◌≡◌, ◌<◌, ◌≤◌, All, IfOk, length};
+ghost use Rattle.std.specs.Prelude.{◌≡◌, ◌<◌, All, IfOk, length};
 ghost use Rattle.clauses.specs.Problem.{IsBelow};
 
 use crate::{Checked, checks};
