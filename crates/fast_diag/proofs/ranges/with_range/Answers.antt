@@ -1,0 +1,17 @@
+use Rattle.std.proofs.Common.{◌≡◌, ◌+◌, ◌≤◌, ◌++◌, refl, subst, arith}
+use Rattle.std.specs.Prelude.{IfOk}
+use Rattle.req_keys.specs.Key.{PositionSet, union_of}
+use Rattle.fast_diag.specs.Diagnosing.{key_over}
+use Rattle.fast_diag.specs.Remaining.{range}
+use Rattle.fast_diag.proofs.RangeLaws.{union_of-behind, RiseWithin-of_range}
+use Rattle.fast_diag.proofs.ranges.with_range.Goals as goal
+
+pub returns : goal.returns
+returns c =
+    let within : c.args.before + c.args.length ≤ c.args.kept.now.n = c.requires.within in
+    let number : c.n.result ≡ c.args.kept.now.n = c.n.ensures.n in
+    let b : c.in_ok-range.range ≡ key_over c.args.kept.now.n (range c.args.before c.args.length) = rw number at c.in_ok-range.ensures in
+    let e : union_of c.args.kept.now c.in_ok-range.range ≡ key_over c.args.kept.now.n (c.args.kept.now.members ++ range c.args.before c.args.length) =
+    rw b
+    (union_of-behind c.args.kept.now.n c.args.before (c.args.before + c.args.length) c.args.kept.now (key_over c.args.kept.now.n (range c.args.before c.args.length)) refl c.requires.below (RiseWithin-of_range c.args.before c.args.length) (omega arith) within) in
+    subst (λ (k : PositionSet). IfOk c.union.result (λ key. key ≡ k)) e c.union.ensures

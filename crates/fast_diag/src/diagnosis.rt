@@ -1,0 +1,108 @@
+//! The state.
+ghost use Rattle.std.specs.Prelude.{◌≡◌, ℕ, ◌≤◌, List, [], ◌∷◌, ◌++◌, IfOk, OnErr, OnOk};
+ghost use Rattle.std.specs.List.{range_with_len};
+ghost use Rattle.pref_sets.specs.Answers.{Next, Ask, Done, IsToldInTurn};
+ghost use Rattle.pref_sets.specs.FastDiag.{fd};
+ghost use Rattle.fast_diag.specs.Diagnosing.{Diagnosing, IsAsking, IsDone, asked_key, key_over, next_of, wanted_key};
+
+use crate::parts::Part;
+use req_keys::{Key, Want};
+use std::alloc::{AllocError, Global};
+use std::marker::Model;
+
+/// FastDiag over the positions `1..=n`, of which all together are known to be Unsat, and none to be Sat.
+#[derive(Drop)]
+pub struct FastDiag {
+    n: u32,
+    /// The answers so far. Each is on the key that was asked then.
+    told: Vec<bool>,
+    part: Part,
+}
+
+impl Model for FastDiag {
+    ghost use Rattle.std.specs.Prelude.{[]};
+    ghost use Rattle.std.specs.List.{range_with_len};
+    ghost use Rattle.pref_sets.specs.FastDiag.{fd};
+    ghost use Rattle.fast_diag.specs.Diagnosing.{Diagnosing, told_in_turn};
+    ghost use Rattle.fast_diag.specs.Standing.{Stands};
+
+    ghost Value = { Diagnosing };
+
+    ghost view = { λ a. record { n = a.n; told = told_in_turn (fd (range_with_len 1 a.n)) [] a.told.items } };
+
+    ghost invariant = { λ a. Stands a.n a.told.items a.part };
+}
+
+impl FastDiag {
+    pub fn new(alloc: Global, n: u32) -> Result<FastDiag, AllocError>
+        requires some { 1 ≤ n }
+        requires most { n ≤ 4096 }
+        ensures { IfOk result (λ state. state ≡ record { n = n; told = [] }) }
+    {
+        Ok(FastDiag {
+            n,
+            told: Vec::new(alloc),
+            part: Part::start(alloc, n)?,
+        })
+    }
+
+    /// The key whose verdict is wanted: that of the set which FastDiag asks over the told answers. They were told in
+    /// turn, so there are at most 2 * n - 2 of them.
+    pub fn want(&self) -> Want<'_>
+        ensures asks { wanted_key result ≡ asked_key self.now.n (next_of self.now) }
+        ensures told { IsToldInTurn (fd (range_with_len 1 self.now.n)) [] self.now.told }
+    {
+        if self.part.length == 0 {
+            Want::Done
+        } else {
+            Want::Ask(&self.part.asked)
+        }
+    }
+
+    /// A state with one more answer.
+    fn with_answer(&self, sat: bool) -> Result<FastDiag, AllocError>
+        requires { IsAsking (next_of self.now) }
+        ensures { (set : List ℕ) → next_of self.now ≡ Ask set → IfOk result (λ state. state ≡ record { n = self.now.n; told = self.now.told ++ record { set = set; sat = sat } ∷ [] }) }
+    {
+        let alloc = *self.told.allocator();
+        let mut told = self.told.clone()?;
+        told.push(sat)?;
+        let part = self.part.copy(alloc)?.told(alloc, sat)?;
+        Ok(FastDiag {
+            n: self.n,
+            told,
+            part,
+        })
+    }
+
+    /// Appends the answer to the asked key. The next state is made beside this one, which want of memory leaves as it was.
+    pub fn tell(&mut self, sat: bool) -> Result<(), AllocError>
+        requires { IsAsking (next_of self.old) }
+        ensures ok { (set : List ℕ) → next_of self.old ≡ Ask set → OnOk result (self.new ≡ record { n = self.old.n; told = self.old.told ++ record { set = set; sat = sat } ∷ [] }) }
+        ensures err { OnErr result (self.new ≡ self.old) }
+    {
+        let next = self.with_answer(sat)?;
+        *self = next;
+        Ok(())
+    }
+
+    pub fn copy(&self) -> Result<FastDiag, AllocError>
+        ensures { IfOk result (λ state. state ≡ self.now) }
+    {
+        let told = self.told.clone()?;
+        let part = self.part.copy(*self.told.allocator())?;
+        Ok(FastDiag {
+            n: self.n,
+            told,
+            part,
+        })
+    }
+
+    /// What FastDiag keeps.
+    pub fn kept(&self) -> &Key
+        requires { IsDone (next_of self.now) }
+        ensures { (set : List ℕ) → next_of self.now ≡ Done set → result.now ≡ key_over self.now.n set }
+    {
+        &self.part.kept
+    }
+}
