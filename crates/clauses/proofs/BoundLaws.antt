@@ -10,7 +10,7 @@ use Rattle.clauses.specs.declared.literal.Lit.{Lit}
 use Rattle.clauses.specs.Clause.{positive_of}
 use Rattle.clauses.specs.Closure.{closure, clash}
 use Rattle.clauses.specs.Search.{Limit, Standing, Turn, GoesOn, Ends, under, all_false, some_true, clashing, cut_after, turn, start, standing_after, answer_within, NameTheSame, NameOthers}
-use Rattle.clauses.proofs.Members.{none, first, later, first_or_later, from_map, to_map}
+use Rattle.lists.proofs.Members.{none, first, later, first_or_later, from_map, to_map}
 use Rattle.clauses.proofs.TurnLaws.{IsTurn, answers, decides, refutes, gives_up, learns, turn_is, reached, ended}
 use Rattle.clauses.proofs.EnoughLaws.{among, among-from, from_among, open-parts}
 use Rattle.clauses.proofs.TrimmedLaws.{trimmed-within}

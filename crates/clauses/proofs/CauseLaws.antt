@@ -8,7 +8,7 @@ use Rattle.clauses.specs.declared.literal.Lit.{Lit}
 use Rattle.clauses.specs.Closure.{clash}
 use Rattle.clauses.specs.Problem.{IsBelow}
 use Rattle.clauses.specs.Search.{SearchAnswer, Limit, Standing, Turn, GoesOn, Ends, under, some_true, clashing, cut_after, turn, turn_count, answer_within, standing_after, start}
-use Rattle.clauses.proofs.Members.{none}
+use Rattle.lists.proofs.Members.{none}
 use Rattle.clauses.proofs.TurnLaws.{IsTurn, answers, decides, refutes, gives_up, learns, turn_is, ended, reached, after_one_more}
 use Rattle.clauses.proofs.StandingLaws.{reached-good}
 use Rattle.clauses.proofs.EnoughLaws.{answers-in_count}

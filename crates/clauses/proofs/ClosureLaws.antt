@@ -6,7 +6,7 @@ use Rattle.std.proofs.lemmas.List.Elements.{Contains-append_cases, Contains-push
 use Rattle.clauses.specs.declared.literal.Lit.{Lit}
 use Rattle.clauses.specs.Clause.{is_same, has, negation, unit_of, is_true_in, is_satisfied, are_satisfied}
 use Rattle.clauses.specs.Closure.{is_forcing, forced_by, with_literal, newly_forced, rounds, closure, literal_count, is_refuted, clash, follows}
-use Rattle.clauses.proofs.Members.{first, later, none, any_from, any_none, any_at, all_at, all_from, from_filter, from_map, from_flat_map}
+use Rattle.lists.proofs.Members.{first, later, none, any_from, any_none, any_at, all_at, all_from, from_filter, from_map, from_flat_map}
 use Rattle.clauses.proofs.Literals.{is_same-eq, from_has}
 
 -- ---- one round

@@ -2,7 +2,7 @@
 use Rattle.std.proofs.Common.{◌≡◌, ◌∙◌, refl, ap, ⊎_elim, ℕ, ◌+◌, ◌<◌, ◌≤◌, Bool, true, false, cond, List, [], ◌∷◌, length, arith}
 use Rattle.std.specs.Prelude.{Contains}
 use Rattle.std.proofs.lemmas.Bool.{false≢true}
-use Rattle.clauses.proofs.Members.{none, first_or_later}
+use Rattle.lists.proofs.Members.{none, first_or_later}
 
 abbrev pub one_if_not : Bool → ℕ
 one_if_not b = cond b 0 1

@@ -10,7 +10,7 @@ use Rattle.clauses.specs.declared.literal.Lit.{Lit}
 use Rattle.clauses.specs.Clause.{negation, negative_of, unit_of, is_satisfied, are_satisfied}
 use Rattle.clauses.specs.Closure.{clash, follows, AreDerived, IsDerivation}
 use Rattle.clauses.specs.Search.{Unsat, Standing, Turn, GoesOn, Ends, all_false, some_true, clashing, cut_after, turn, answer_within, standing_after, start}
-use Rattle.clauses.proofs.Members.{all_at, all_from, first_or_later, none}
+use Rattle.lists.proofs.Members.{all_at, all_from, first_or_later, none}
 use Rattle.clauses.proofs.ClosureLaws.{follows-satisfied}
 use Rattle.clauses.proofs.TurnLaws.{IsTurn, answers, decides, refutes, gives_up, learns, turn_is, ended, reached, after_one_more}
 

@@ -10,7 +10,7 @@ use Rattle.clauses.specs.declared.literal.Lit.{Lit}
 use Rattle.clauses.specs.Clause.{has, is_same, negation, positive_of, negative_of, unit_of}
 use Rattle.clauses.specs.Closure.{closure, is_forcing}
 use Rattle.clauses.specs.Search.{SearchAnswer, Standing, Turn, GoesOn, Ends, under, all_false, some_true, clashing, cut_after, open_variables, turn, answer_within, turn_count, start}
-use Rattle.clauses.proofs.Members.{first, any_from, any_at, to_map, from_filter}
+use Rattle.lists.proofs.Members.{first, any_from, any_at, to_map, from_filter}
 use Rattle.clauses.proofs.Literals.{is_same-refl}
 use Rattle.clauses.proofs.Counting.{fails, fails-most, fails-less}
 use Rattle.clauses.proofs.LeastLaws.{closure-has}

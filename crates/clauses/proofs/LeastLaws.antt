@@ -6,7 +6,7 @@ use Rattle.std.proofs.lemmas.List.Elements.{Contains-append_left, Contains-appen
 use Rattle.clauses.specs.declared.literal.Lit.{Lit}
 use Rattle.clauses.specs.Clause.{is_same, has, negation}
 use Rattle.clauses.specs.Closure.{is_forcing, forced_by, with_literal, newly_forced, rounds, closure, literal_count, AreAmong, IsClosed, is_refuted, clash}
-use Rattle.clauses.proofs.Members.{none, first, first_or_later, any_at, any_from, all_at, all_from, to_filter, to_flat_map}
+use Rattle.lists.proofs.Members.{none, first, first_or_later, any_at, any_from, all_at, all_from, to_filter, to_flat_map}
 use Rattle.clauses.proofs.Literals.{is_same-eq, is_same-refl, has-from, from_has}
 use Rattle.clauses.proofs.ClosureLaws.{from_newly_forced, rounds-keep}
 use Rattle.clauses.proofs.Counting.{fails, fails-most, fails-less}

@@ -1,4 +1,3 @@
-pub mod Members
 pub mod Literals
 pub mod ClosureLaws
 pub mod TurnLaws

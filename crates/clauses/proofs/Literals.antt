@@ -4,7 +4,7 @@ use Rattle.std.specs.Prelude.{Contains}
 use Rattle.std.proofs.lemmas.Bool.{false≢true, and_parts, and_from, eqb-true, eq-eqb}
 use Rattle.clauses.specs.declared.literal.Lit.{Lit}
 use Rattle.clauses.specs.Clause.{is_same, has, negation}
-use Rattle.clauses.proofs.Members.{any_from, any_at}
+use Rattle.lists.proofs.Members.{any_from, any_at}
 
 same_sign : (a b : Bool) → cond a b (not b) ≡ true → a ≡ b
 same_sign true b e = sym e

@@ -12,7 +12,7 @@ use Rattle.req_keys.specs.Key.{PositionSet}
 use Rattle.clauses.specs.Problem.{ClauseProblem, IsProblem, IsBelow, roots_at, clauses_with}
 use Rattle.clauses.specs.Search.{Sat, Standing, Turn, Ends, under, all_false as false_units, open_variables, values_of, turn, answer_within, start}
 use Rattle.clauses.proofs.TurnLaws.{IsTurn, answers, decides, refutes, gives_up, learns, turn_is, ended}
-use Rattle.clauses.proofs.Members.{later, none, first_or_later, any_from, any_none, all_from, all_false, to_filter, from_map}
+use Rattle.lists.proofs.Members.{later, none, first_or_later, any_from, any_none, all_from, all_false, to_filter, from_map}
 
 pub in_range : (v x : ℕ) → x < v → Contains (range_with_len 0 v) x
 in_range v x l =

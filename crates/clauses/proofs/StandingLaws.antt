@@ -11,7 +11,8 @@ use Rattle.clauses.specs.declared.literal.Lit.{Lit}
 use Rattle.clauses.specs.Clause.{has, is_same, negation, positive_of, negative_of}
 use Rattle.clauses.specs.Closure.{closure, clash, is_forcing}
 use Rattle.clauses.specs.Search.{Standing, Turn, GoesOn, under, all_false, some_true, clashing, cut_after, up_to, open_variables, turn, start, standing_after, NameTheSame, NameOthers}
-use Rattle.clauses.proofs.Members.{none, first, later, first_or_later, all_at, all_from, all_false as not_all, from_filter, from_map, to_map}
+use Rattle.lists.proofs.Distinct.{distinct-push}
+use Rattle.lists.proofs.Members.{none, first, later, first_or_later, all_at, all_from, all_false as not_all, from_filter, from_map, to_map}
 use Rattle.clauses.proofs.Literals.{is_same-refl}
 use Rattle.clauses.proofs.LeastLaws.{closure-has, closure-closed, closure-least}
 use Rattle.clauses.proofs.TurnLaws.{IsTurn, answers, decides, refutes, gives_up, learns, turn_is, reached}
@@ -28,13 +29,6 @@ distinct_cond false x us f d = d
 distinct-filter : (p : ℕ → Bool) (xs : List ℕ) → IsDistinct xs → IsDistinct (filter p xs)
 distinct-filter p [] d = tt
 distinct-filter p (x ∷ xs) d = distinct_cond (p x) x (filter p xs) (λ m. d.0 (from_filter p xs x m).0) (distinct-filter p xs d.1)
-
-distinct-push : (xs : List ℕ) (x : ℕ) → IsDistinct xs → (Contains xs x → ⊥) → IsDistinct (xs ++ x ∷ [])
-distinct-push [] x d f = (none x, tt)
-distinct-push (y ∷ ys) x d f = (
-  (λ m. ⊎_elim (λ (old : Contains ys y). d.0 old) (λ (e : x ≡ y). f (subst (Contains (y ∷ ys)) (sym e) (first y ys))) (Contains-push_cases ys x y m)),
-  distinct-push ys x d.1 (λ m. f (later y ys x m)),
-)
 
 distinct-end : (xs ys : List ℕ) → IsDistinct (xs ++ ys) → IsDistinct ys
 distinct-end [] ys d = d

@@ -2,7 +2,7 @@
 use Rattle.std.proofs.Common.{◌≡◌, ◌∙◌, refl, sym, ⊎_elim, ℕ, zero, suc, ◌+◌, ◌*◌, ◌^◌, ◌≤◌, Bool, true, false, cond, not, ◌&&◌, List, [], ◌∷◌, length, arith, pow-suc}
 use Rattle.std.specs.Prelude.{Contains, filter}
 use Rattle.std.proofs.lemmas.Bool.{true≢false, false≢true, and_from, cases_Bool}
-use Rattle.clauses.proofs.Members.{first, from_filter}
+use Rattle.lists.proofs.Members.{first, from_filter}
 
 abbrev Set : Type 0
 Set = ℕ → Bool

@@ -12,7 +12,7 @@ use Rattle.clauses.specs.declared.literal.Lit.{Lit}
 use Rattle.clauses.specs.Clause.{has, is_same, negation, positive_of, negative_of, unit_of}
 use Rattle.clauses.specs.Closure.{closure, clash, is_forcing, is_refuted}
 use Rattle.clauses.specs.Search.{all_false}
-use Rattle.clauses.proofs.Members.{none, first, first_or_later, any_from, any_at, all_at, all_from, from_filter, to_filter, from_map, to_map}
+use Rattle.lists.proofs.Members.{none, first, first_or_later, any_from, any_at, all_at, all_from, from_filter, to_filter, from_map, to_map}
 use Rattle.clauses.proofs.Literals.{is_same-eq, is_same-refl, has-from, from_has}
 use Rattle.clauses.proofs.LeastLaws.{closure-has, closure-closed, closure-least, closure-among}
 use Rattle.clauses.proofs.DerivationLaws.{trimmed-holds}

@@ -9,13 +9,14 @@ use Rattle.pref_sets.specs.Preferred.{IsDistinct}
 use Rattle.clauses.specs.declared.literal.Lit.{Lit}
 use Rattle.clauses.specs.Clause.{negation, unit_of}
 use Rattle.clauses.specs.Closure.{closure, clash, follows, IsClosed}
-use Rattle.clauses.proofs.Members.{none, first, first_or_later, from_map, to_map}
+use Rattle.lists.proofs.Members.{none, first, first_or_later, from_map, to_map}
 use Rattle.clauses.proofs.TrimmedLaws.{closure-more, clash-more, clash-from_refuted, refuted-from_clash}
 use Rattle.clauses.proofs.LeastLaws.{closure-closed, closure-least}
 use Rattle.propagation.specs.Propagation.{Propagation, propagated, value_of}
 use Rattle.propagation.specs.Values.{IsPart}
 use Rattle.propagation.proofs.ValueLaws.{one_sign, both-clash, value-true, value-false, value-none}
-use Rattle.solver.proofs.TrialLaws.{unit-closed, distinct-few, distinct-push}
+use Rattle.lists.proofs.Distinct.{distinct-push}
+use Rattle.solver.proofs.TrialLaws.{unit-closed, distinct-few}
 use Rattle.derivation_check.specs.Negations.{IsBehind, IsNegated}
 
 -- the negations of a line's literals, each as a clause of its own

@@ -1,6 +1,5 @@
 -- A sink in memory, as its callers see it. Own to this project.
-use Rattle.std.specs.Prelude.{◌≡◌, ℕ, ◌+◌, ◌-◌, ◌<◌, ◌⊎◌, Bool, ◌==◌, List, length, Option, Some, None, IsSome, unwrap_or, min}
-use Rattle.std.specs.Vec.{vec_capacity}
+use Rattle.std.specs.Prelude.{ℕ, ◌-◌, ◌<◌, ◌⊎◌, ◌==◌, List, length, Option, IsSome, unwrap_or, min}
 use Rattle.std.specs.Map.{lookup}
 use Rattle.diag_base.specs.declared.mem_sink.MemSink.{MemSink}
 

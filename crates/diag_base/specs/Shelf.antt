@@ -1,5 +1,5 @@
 -- What a fetch from a shelf may answer. Own to this project.
-use Rattle.std.specs.Prelude.{◌≡◌, ◌≢◌, ℕ, ◌<◌, ◌≤◌, List, length, Option, Some, None, Result, Ok, Err, IsErrOf, IfSome}
+use Rattle.std.specs.Prelude.{◌≡◌, ℕ, ◌<◌, ◌≤◌, List, length, Option, Some, Result, Ok, Err}
 use Rattle.diag_base.specs.declared.shelf.Fetched.{Fetched}
 use Rattle.diag_base.specs.declared.shelf.Fetched.TheVariants.{Whole, Longer}
 use Rattle.diag_base.specs.declared.shelf.FetchError.{FetchError}

@@ -2,10 +2,9 @@
 use Rattle.std.proofs.Common.{◌≡◌, ℕ, ◌<◌, ◌≤◌, List, [], ◌∷◌, ◌++◌, refl, ⊎_elim, arith}
 use Rattle.std.specs.Prelude.{Contains}
 use Rattle.pref_sets.specs.Positions.{union}
-use Rattle.pref_sets.proofs.BestLaws.{first_or_later}
-use Rattle.pref_sets.proofs.TrimLaws.{contains_first, contains_later, contains_none}
 use Rattle.pref_sets.proofs.PositionLaws.{Ascends, union-append}
 use Rattle.req_keys.specs.Positions.{RiseWithin}
+use Rattle.lists.proofs.Members.{first as contains_first, later as contains_later, none as contains_none, first_or_later}
 
 pub members-within : (low high : ℕ) (xs : List ℕ) → RiseWithin low high xs → (y : ℕ) → Contains xs y → (low < y) × (y ≤ high)
 members-within low high [] h y m = absurd (contains_none y m)
@@ -18,7 +17,7 @@ members-within low high (x ∷ xs) h y m =
     let rest : (x < y) × (y ≤ high) = members-within x high xs h.2 y later in
     let first : x < y = rest.0 in
     (omega arith, rest.1))
-    (first_or_later x y xs m)
+    (first_or_later x xs y m)
 
 pub Ascends-from_rises : (low high : ℕ) (xs : List ℕ) → RiseWithin low high xs → Ascends xs
 Ascends-from_rises low high [] h = tt
@@ -33,7 +32,7 @@ rises-from_Ascends low high (x ∷ xs) a h =
     let first : (low < x) × (x ≤ high) = h x (contains_first x xs) in (
       first.0,
       first.1,
-      rises-from_Ascends x high xs a.1 (λ y m. let there : (low < y) × (y ≤ high) = h y (contains_later x y xs m) in (a.0 y m, there.1)),
+      rises-from_Ascends x high xs a.1 (λ y m. let there : (low < y) × (y ≤ high) = h y (contains_later x xs y m) in (a.0 y m, there.1)),
     )
 
 pub union-above : (low middle high : ℕ) (a b : List ℕ) → RiseWithin low middle a → RiseWithin middle high b → union a b ≡ a ++ b

@@ -17,4 +17,3 @@ pub mod Scan
 pub mod Truth
 pub mod WellFormed
 pub mod Within
-pub mod formers

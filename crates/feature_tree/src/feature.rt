@@ -4,7 +4,7 @@ ghost use Rattle.feature_tree.specs.Decided.{is_settled as settled};
 ghost use Rattle.feature_tree.specs.Within.{IsWithin};
 
 use crate::group::{Groups, are_met};
-use crate::row::Row;
+use lists::Row;
 use crate::text::Text;
 
 /// A feature, whose number is its place in the list of features.

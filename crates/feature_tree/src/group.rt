@@ -5,7 +5,7 @@ ghost use Rattle.feature_tree.specs.Product.{allows as allows_count, count_in as
 ghost use Rattle.feature_tree.specs.Decided.{is_met as meets};
 ghost use Rattle.feature_tree.specs.Within.{ChildrenBelow};
 
-use crate::row::{Numbers, Row};
+use lists::{Numbers, Row};
 
 /// How many of a group's children a product that holds the parent holds.
 #[derive(Clone, Copy, PartialEq, Eq, Debug)]

@@ -14,7 +14,6 @@ mod laws;
 mod model;
 mod numbered;
 mod reader;
-mod row;
 mod text;
 mod tree;
 
@@ -28,7 +27,7 @@ pub use laws::{
 pub use model::Model;
 pub use numbered::numbered_keeps_truth;
 pub use reader::{FormulaError, formula_of};
-pub use row::{Numbers, Row};
+pub use lists::{Numbers, Row};
 pub use sqlite_items::Boxed;
 pub use text::Text;
 pub use tree::Tree;

@@ -3,7 +3,7 @@ ghost use Rattle.feature_tree.specs.Names.{NamesBelow};
 ghost use Rattle.feature_tree.specs.Numbered.{numbered, NumberedNames, NumberedTruth};
 
 use crate::formula::{Formula, Formulas};
-use crate::row::Row;
+use lists::Row;
 use sqlite_items::Boxed;
 use std::alloc::{AllocError, Global};
 

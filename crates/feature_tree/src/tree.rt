@@ -7,7 +7,7 @@ use crate::feature::{Feature, Features};
 use crate::formula::Formulas;
 use crate::group::{Group, GroupKind, Groups};
 use crate::model::Model;
-use crate::row::Row;
+use lists::Row;
 use crate::text::Text;
 use std::alloc::{AllocError, Global};
 

@@ -9,7 +9,8 @@ use Rattle.pref_sets.specs.Kept.{IsKept, with_item}
 use Rattle.pref_sets.specs.Trimmed.{IsTrimmed, without_item}
 use Rattle.pref_sets.specs.TrimmedBehind.{IsTrimmedBehind}
 use Rattle.pref_sets.specs.Preferred.{IsWithin, IsDistinct}
-use Rattle.pref_sets.proofs.TrimLaws.{IsMonotone, IsWithin-append, IsTrimmedBehind-within, IsTrimmedBehind-keeps, without_item-middle, contains_first, contains_later, contains_none, only}
+use Rattle.pref_sets.proofs.TrimLaws.{IsMonotone, IsWithin-append, IsTrimmedBehind-within, IsTrimmedBehind-keeps, without_item-middle, only}
+use Rattle.lists.proofs.Members.{first as contains_first, later as contains_later, none as contains_none, first_or_later}
 
 -- a property of all lists that passes to every list with fewer members
 abbrev pub IsAntitone : (List ℕ → Type 0) → Type 0
@@ -26,9 +27,6 @@ kept-holds P [] set kept g h = rw g h
 kept-holds P (x ∷ items) set kept (inl g) h = kept-holds P items (set ++ x ∷ []) kept g.1 g.0
 kept-holds P (x ∷ items) set kept (inr g) h = kept-holds P items set kept g.1 h
 
-pub first_or_later : (x i : ℕ) (xs : List ℕ) → Contains (x ∷ xs) i → (x ≡ i) ⊎ Contains xs i
-first_or_later x i xs m = ⊎_elim (λ (first : Contains (x ∷ []) i). inl (only x i first)) (λ (later : Contains xs i). inr later) (Contains-append_cases (x ∷ []) xs i m)
-
 -- a set that has the property and all of the kept set has no other item
 kept-maximal : (P : List ℕ → Type 0) → IsAntitone P → (items set kept : List ℕ) → IsGreedy P with_item set items kept → (other : List ℕ) → P other → IsWithin kept other → (i : ℕ) → Contains items i → Contains other i → Contains kept i
 kept-maximal P fewer [] set kept g other h w i m n = absurd (contains_none i m)
@@ -36,7 +34,7 @@ kept-maximal P fewer (x ∷ items) set kept (inl g) other h w i m n =
     ⊎_elim
     (λ (same : x ≡ i). within_kept P items (set ++ x ∷ []) kept g.1 i (rw (← same) (Contains-push set x)))
     (λ (later : Contains items i). kept-maximal P fewer items (set ++ x ∷ []) kept g.1 other h w i later n)
-    (first_or_later x i items m)
+    (first_or_later x items i m)
 kept-maximal P fewer (x ∷ items) set kept (inr g) other h w i m n =
     ⊎_elim
     (λ (same : x ≡ i).
@@ -45,7 +43,7 @@ kept-maximal P fewer (x ∷ items) set kept (inr g) other h w i m n =
     ⊎_elim (λ (l : Contains set j). w j (within_kept P items set kept g.1 j l)) (λ (r : Contains (x ∷ []) j). rw (← only x j r) there) (Contains-append_cases set (x ∷ []) j k) in
     absurd (g.0 (fewer (set ++ x ∷ []) other inside h)))
     (λ (later : Contains items i). kept-maximal P fewer items set kept g.1 other h w i later n)
-    (first_or_later x i items m)
+    (first_or_later x items i m)
 
 pub IsKept-holds : (P : List ℕ → Type 0) (items kept : List ℕ) → P [] → IsKept P items kept → P kept
 IsKept-holds P items kept h g = kept-holds P items [] kept g h
@@ -68,7 +66,7 @@ behind-from_greedy P (x ∷ items) before last d apart g =
     greedy-apart P without_item (reverse items) (x ∷ []) (before ++ x ∷ items) last (rw turned at g) in
     let whole : (before ++ x ∷ []) ++ items ≡ before ++ x ∷ items = append_assoc before (x ∷ []) items in
     let apart_later : (i : ℕ) → Contains (before ++ x ∷ []) i → Contains items i → ⊥ =
-    λ i m n. ⊎_elim (λ (l : Contains before i). apart i l (contains_later x i items n)) (λ (r : Contains (x ∷ []) i). d.0 (rw (sym (only x i r)) at n)) (Contains-append_cases before (x ∷ []) i m) in
+    λ i m n. ⊎_elim (λ (l : Contains before i). apart i l (contains_later x items i n)) (λ (r : Contains (x ∷ []) i). d.0 (rw (sym (only x i r)) at n)) (Contains-append_cases before (x ∷ []) i m) in
     let rest : (left : List ℕ) × (parts.0 ≡ (before ++ x ∷ []) ++ left) × IsTrimmedBehind P (before ++ x ∷ []) items left =
     behind-from_greedy P items (before ++ x ∷ []) parts.0 d.1 apart_later (rw whole parts.1) in
     let later : List ℕ = rest.0 in
@@ -99,8 +97,8 @@ contains_cases (y ∷ ys) x =
     (λ (same : y ≡ x). inl (rw (← same) (contains_first y ys)))
     (λ (other : y ≡ x → ⊥).
     ⊎_elim
-    (λ (there : Contains ys x). inl (contains_later y x ys there))
-    (λ (none : Contains ys x → ⊥). inr (λ m. ⊎_elim other none (first_or_later y x ys m)))
+    (λ (there : Contains ys x). inl (contains_later y ys x there))
+    (λ (none : Contains ys x → ⊥). inr (λ m. ⊎_elim other none (first_or_later y ys x m)))
     (contains_cases ys x))
     (cases_eq y x)
 
@@ -111,11 +109,11 @@ without_item-has (y ∷ ys) x i m ne =
     ⊎_elim
     (λ (gone : y ≡ x).
     let rest : Contains (without_item ys x) i =
-    ⊎_elim (λ (same : y ≡ i). absurd (ne (sym gone ∙ same))) (λ (later : Contains ys i). without_item-has ys x i later ne) (first_or_later y i ys m) in
+    ⊎_elim (λ (same : y ≡ i). absurd (ne (sym gone ∙ same))) (λ (later : Contains ys i). without_item-has ys x i later ne) (first_or_later y ys i m) in
     rw (eq-eqb y x gone) rest)
     (λ (stays : y ≡ x → ⊥).
     rw (ne_eqb y x stays)
-    (⊎_elim (λ (same : y ≡ i). rw (← same) (contains_first y (without_item ys x))) (λ (later : Contains ys i). contains_later y i (without_item ys x) (without_item-has ys x i later ne)) (first_or_later y i ys m)))
+    (⊎_elim (λ (same : y ≡ i). rw (← same) (contains_first y (without_item ys x))) (λ (later : Contains ys i). contains_later y (without_item ys x) i (without_item-has ys x i later ne)) (first_or_later y ys i m)))
     (cases_eq y x)
 
 without_item-of : (xs : List ℕ) (x i : ℕ) → Contains (without_item xs x) i → Contains xs i × (x ≡ i → ⊥)
@@ -125,13 +123,13 @@ without_item-of (y ∷ ys) x i m =
     (λ (gone : y ≡ x).
     let rest : Contains (without_item ys x) i = rw (eq-eqb y x gone) at m in
     let r = without_item-of ys x i rest in
-    (contains_later y i ys r.0, r.1))
+    (contains_later y ys i r.0, r.1))
     (λ (stays : y ≡ x → ⊥).
     let whole : Contains (y ∷ without_item ys x) i = rw (ne_eqb y x stays) at m in
     ⊎_elim
     (λ (same : y ≡ i). (rw (← same) (contains_first y ys), λ e. stays (same ∙ sym e)))
-    (λ (later : Contains (without_item ys x) i). let r = without_item-of ys x i later in (contains_later y i ys r.0, r.1))
-    (first_or_later y i (without_item ys x) whole))
+    (λ (later : Contains (without_item ys x) i). let r = without_item-of ys x i later in (contains_later y ys i r.0, r.1))
+    (first_or_later y (without_item ys x) i whole))
     (cases_eq y x)
 
 -- a part of what stays that has the property behind the same items is all of it
@@ -149,13 +147,13 @@ behind-minimal P more (x ∷ items) before left t other w h i m =
     let has_x : Contains other x =
     ⊎_elim (λ (there : Contains other x). there)
     (λ (none : Contains other x → ⊥).
-    let fewer : IsWithin other later = λ j k. ⊎_elim (λ (same : x ≡ j). absurd (none (rw same k))) (λ (r : Contains later j). r) (first_or_later x j later (inside j k)) in
+    let fewer : IsWithin other later = λ j k. ⊎_elim (λ (same : x ≡ j). absurd (none (rw same k))) (λ (r : Contains later j). r) (first_or_later x later j (inside j k)) in
     absurd (n.0 (more (before ++ other) (before ++ later) (IsWithin-append before other before later (λ j k. k) fewer) h)))
     (contains_cases other x) in
     let rest : List ℕ = without_item other x in
     let rest_inside : IsWithin rest later = λ j k.
     let r = without_item-of other x j k in
-    ⊎_elim (λ (same : x ≡ j). absurd (r.1 same)) (λ (l : Contains later j). l) (first_or_later x j later (inside j r.0)) in
+    ⊎_elim (λ (same : x ≡ j). absurd (r.1 same)) (λ (l : Contains later j). l) (first_or_later x later j (inside j r.0)) in
     let there : IsWithin (before ++ other) ((before ++ x ∷ []) ++ rest) = λ j k.
     ⊎_elim
     (λ (l : Contains before j). Contains-append_left (before ++ x ∷ []) rest j (Contains-append_left before (x ∷ []) j l))
@@ -169,7 +167,7 @@ behind-minimal P more (x ∷ items) before left t other w h i m =
     ⊎_elim
     (λ (same : x ≡ i). rw (← same) has_x)
     (λ (l : Contains later i). (without_item-of other x i (all i l)).0)
-    (first_or_later x i later (rw n.1 at m)))
+    (first_or_later x later i (rw n.1 at m)))
     t.2
 
 pub IsTrimmed-minimal : (P : List ℕ → Type 0) → IsMonotone P → (items left : List ℕ) → IsDistinct items → IsTrimmed P items left → (other : List ℕ) → IsWithin other left → P other → IsWithin left other

@@ -4,9 +4,9 @@ use Rattle.pref_sets.specs.Answers.{Answer, same_set}
 use Rattle.pref_sets.specs.FastDiag.{fd_part, unless_sat}
 use Rattle.pref_sets.specs.Positions.{union, lower_half, upper_half}
 use Rattle.pref_sets.specs.Preferred.{IsWithin}
-use Rattle.pref_sets.proofs.TrimLaws.{contains_none}
 use Rattle.pref_sets.proofs.PlanLaws.{Plan, found, asks, over, chain, over-chain, AsksOnly, AsksOnly-chain, AsksAtMost, AsksAtMost-weaker, AsksAtMost-chain}
 use Rattle.pref_sets.proofs.PositionLaws.{union-all, Ascends, Ascends-apart, AreBelow, union-ascends, halves-join, halves-length, lower-within, upper-within}
+use Rattle.lists.proofs.Members.{none as contains_none}
 
 abbrev pub sat_plan : List ℕ → List ℕ → Bool → Plan → Plan
 sat_plan positions background true left = left

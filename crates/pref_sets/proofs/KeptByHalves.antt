@@ -10,10 +10,11 @@ use Rattle.pref_sets.specs.Kept.{IsKept, with_item}
 use Rattle.pref_sets.specs.Positions.{union, lower_half, upper_half}
 use Rattle.pref_sets.specs.Preferred.{IsWithin}
 use Rattle.pref_sets.proofs.BestLaws.{IsAntitone}
-use Rattle.pref_sets.proofs.TrimLaws.{IsGreedy-append, contains_none}
+use Rattle.pref_sets.proofs.TrimLaws.{IsGreedy-append}
 use Rattle.pref_sets.proofs.PlanLaws.{Plan, found, over, chain, Finds, Finds-chain, Finds-over}
 use Rattle.pref_sets.proofs.PositionLaws.{HaveSame, union-same, union-all, Ascends, Ascends-apart, AreBelow, union-within, union-has, union-ascends, union-append, halves-join, halves-length}
 use Rattle.pref_sets.proofs.FastDiagLaws.{sat_plan, fd_plan, fd_part-plan}
+use Rattle.lists.proofs.Members.{none as contains_none}
 
 module _ (P : List ℕ → Type 0) (fewer : IsAntitone P) where
   -- the positions are gone through behind the background, and what is kept of them stands behind it

@@ -4,13 +4,14 @@ use Rattle.std.specs.Prelude.{Contains, ◌↔◌}
 use Rattle.pref_sets.specs.Kept.{IsKept}
 use Rattle.pref_sets.specs.Trimmed.{IsTrimmed}
 use Rattle.pref_sets.specs.Preferred.{IsWithin, IsDistinct, AgreeOn, IsPreferredTo, IsPreferredConflictTo}
-use Rattle.pref_sets.proofs.TrimLaws.{IsMonotone, IsTrimmedBehind-within, contains_none}
-use Rattle.pref_sets.proofs.BestLaws.{IsAntitone, IsKept-holds, IsTrimmed-holds, contains_cases, first_or_later, behind-from_IsTrimmed}
+use Rattle.pref_sets.proofs.TrimLaws.{IsMonotone, IsTrimmedBehind-within}
+use Rattle.pref_sets.proofs.BestLaws.{IsAntitone, IsKept-holds, IsTrimmed-holds, contains_cases, behind-from_IsTrimmed}
 use Rattle.pref_sets.proofs.PreferredLaws.{IsKept-preferred, IsTrimmed-preferred}
+use Rattle.lists.proofs.Members.{none as contains_none, first_or_later}
 
 agree-cons : (x : ℕ) (items a b : List ℕ) → Contains a x ↔ Contains b x → AgreeOn items a b → AgreeOn (x ∷ items) a b
 agree-cons x items a b here rest i m =
-    ⊎_elim (λ (same : x ≡ i). subst (λ j. Contains a j ↔ Contains b j) same here) (λ (later : Contains items i). rest i later) (first_or_later x i items m)
+    ⊎_elim (λ (same : x ≡ i). subst (λ j. Contains a j ↔ Contains b j) same here) (λ (later : Contains items i). rest i later) (first_or_later x items i m)
 
 agree-turn : (items a b : List ℕ) → AgreeOn items a b → AgreeOn items b a
 agree-turn items a b agree i m = ((agree i m).1, (agree i m).0)

@@ -9,8 +9,8 @@ use Rattle.std.proofs.lemmas.List.Elements.{Contains-append_left, Contains-appen
 use Rattle.std.proofs.lemmas.Bool.{cases_Bool, eqb-true, eqb-false, ltb-true, ltb-false, lt-ltb}
 use Rattle.pref_sets.specs.Positions.{with_position, union, lower_half, upper_half}
 use Rattle.pref_sets.specs.Preferred.{IsWithin, IsDistinct}
-use Rattle.pref_sets.proofs.TrimLaws.{IsWithin-append, contains_first, contains_later, contains_none}
-use Rattle.pref_sets.proofs.BestLaws.{first_or_later}
+use Rattle.pref_sets.proofs.TrimLaws.{IsWithin-append}
+use Rattle.lists.proofs.Members.{first as contains_first, later as contains_later, none as contains_none, first_or_later}
 
 -- each position is below all later ones
 abbrev pub Ascends : List ℕ → Type 0
@@ -52,7 +52,7 @@ Ascends-apart (z ∷ a) b h =
     let r : Ascends a × Ascends b × AreBelow a b = Ascends-apart a b h.1 in (
       ((λ y m. h.0 y (Contains-append_left a b y m)), r.0),
       r.1,
-      (λ x y m n. ⊎_elim (λ (same : z ≡ x). rw (← same) (h.0 y (Contains-append_right a b y n))) (λ (later : Contains a x). r.2 x y later n) (first_or_later z x a m)),
+      (λ x y m n. ⊎_elim (λ (same : z ≡ x). rw (← same) (h.0 y (Contains-append_right a b y n))) (λ (later : Contains a x). r.2 x y later n) (first_or_later z a x m)),
     )
 
 -- a list with one more member
@@ -63,14 +63,14 @@ with_position-cases p (x ∷ set) i m =
     (λ (below : ltb p x ≡ true). rw below at m)
     (λ (above : ltb p x ≡ false).
     ⊎_elim
-    (λ (same : eqb p x ≡ true). let there : Contains (x ∷ set) i = rw (above, same) at m in contains_later p i (x ∷ set) there)
+    (λ (same : eqb p x ≡ true). let there : Contains (x ∷ set) i = rw (above, same) at m in contains_later p (x ∷ set) i there)
     (λ (other : eqb p x ≡ false).
     let there : Contains (x ∷ with_position p set) i = rw (above, other) at m in
     ⊎_elim
-    (λ (first : x ≡ i). rw (← first) (contains_later p x (x ∷ set) (contains_first x set)))
+    (λ (first : x ≡ i). rw (← first) (contains_later p (x ∷ set) x (contains_first x set)))
     (λ (later : Contains (with_position p set) i).
-    ⊎_elim (λ (is_p : p ≡ i). rw (← is_p) (contains_first p (x ∷ set))) (λ (old : Contains set i). contains_later p i (x ∷ set) (contains_later x i set old)) (first_or_later p i set (with_position-cases p set i later)))
-    (first_or_later x i (with_position p set) there))
+    ⊎_elim (λ (is_p : p ≡ i). rw (← is_p) (contains_first p (x ∷ set))) (λ (old : Contains set i). contains_later p (x ∷ set) i (contains_later x set i old)) (first_or_later p set i (with_position-cases p set i later)))
+    (first_or_later x (with_position p set) i there))
     (cases_Bool (eqb p x)))
     (cases_Bool (ltb p x))
 
@@ -83,14 +83,14 @@ with_position-has p (x ∷ set) i m =
     ⊎_elim
     (λ (same : eqb p x ≡ true).
     rw (above, same)
-    (⊎_elim (λ (is_p : p ≡ i). rw (← is_p, eqb-true p x same) (contains_first x set)) (λ (old : Contains (x ∷ set) i). old) (first_or_later p i (x ∷ set) m)))
+    (⊎_elim (λ (is_p : p ≡ i). rw (← is_p, eqb-true p x same) (contains_first x set)) (λ (old : Contains (x ∷ set) i). old) (first_or_later p (x ∷ set) i m)))
     (λ (other : eqb p x ≡ false).
     rw (above, other)
     (⊎_elim
-    (λ (is_p : p ≡ i). contains_later x i (with_position p set) (with_position-has p set i (rw (← is_p) (contains_first p set))))
+    (λ (is_p : p ≡ i). contains_later x (with_position p set) i (with_position-has p set i (rw (← is_p) (contains_first p set))))
     (λ (old : Contains (x ∷ set) i).
-    ⊎_elim (λ (first : x ≡ i). rw (← first) (contains_first x (with_position p set))) (λ (later : Contains set i). contains_later x i (with_position p set) (with_position-has p set i (contains_later p i set later))) (first_or_later x i set old))
-    (first_or_later p i (x ∷ set) m)))
+    ⊎_elim (λ (first : x ≡ i). rw (← first) (contains_first x (with_position p set))) (λ (later : Contains set i). contains_later x (with_position p set) i (with_position-has p set i (contains_later p set i later))) (first_or_later x set i old))
+    (first_or_later p (x ∷ set) i m)))
     (cases_Bool (eqb p x)))
     (cases_Bool (ltb p x))
 
@@ -100,7 +100,7 @@ with_position-ascends p (x ∷ set) h =
     ⊎_elim
     (λ (below : ltb p x ≡ true).
     let first : p < x = ltb-true p x below in
-    let all : (y : ℕ) → Contains (x ∷ set) y → p < y = λ y m. ⊎_elim (λ (same : x ≡ y). rw (← same) first) (λ (later : Contains set y). let above : x < y = h.0 y later in omega arith) (first_or_later x y set m) in
+    let all : (y : ℕ) → Contains (x ∷ set) y → p < y = λ y m. ⊎_elim (λ (same : x ≡ y). rw (← same) first) (λ (later : Contains set y). let above : x < y = h.0 y later in omega arith) (first_or_later x set y m) in
     rw below (all, h))
     (λ (above : ltb p x ≡ false).
     ⊎_elim
@@ -109,7 +109,7 @@ with_position-ascends p (x ∷ set) h =
     let first : x ≤ p = ltb-false p x above in
     let differ : p ≡ x → ⊥ = λ e. eqb-false p x other e in
     let beyond : x < p = omega (arith, differ) in
-    let all : (y : ℕ) → Contains (with_position p set) y → x < y = λ y m. ⊎_elim (λ (is_p : p ≡ y). rw (← is_p) beyond) (λ (old : Contains set y). h.0 y old) (first_or_later p y set (with_position-cases p set y m)) in
+    let all : (y : ℕ) → Contains (with_position p set) y → x < y = λ y m. ⊎_elim (λ (is_p : p ≡ y). rw (← is_p) beyond) (λ (old : Contains set y). h.0 y old) (first_or_later p set y (with_position-cases p set y m)) in
     rw (above, other) (all, with_position-ascends p set h.1))
     (cases_Bool (eqb p x)))
     (cases_Bool (ltb p x))
@@ -124,14 +124,14 @@ union-within [] b i m = m
 union-within (p ∷ a) b i m =
     ⊎_elim
     (λ (is_p : p ≡ i). rw (← is_p) (contains_first p (a ++ b)))
-    (λ (later : Contains (union a b) i). contains_later p i (a ++ b) (union-within a b i later))
-    (first_or_later p i (union a b) (with_position-cases p (union a b) i m))
+    (λ (later : Contains (union a b) i). contains_later p (a ++ b) i (union-within a b i later))
+    (first_or_later p (union a b) i (with_position-cases p (union a b) i m))
 
 pub union-has : (a b : List ℕ) → IsWithin (a ++ b) (union a b)
 union-has [] b i m = m
 union-has (p ∷ a) b i m =
     with_position-has p (union a b) i
-    (⊎_elim (λ (is_p : p ≡ i). rw (← is_p) (contains_first p (union a b))) (λ (later : Contains (a ++ b) i). contains_later p i (union a b) (union-has a b i later)) (first_or_later p i (a ++ b) m))
+    (⊎_elim (λ (is_p : p ≡ i). rw (← is_p) (contains_first p (union a b))) (λ (later : Contains (a ++ b) i). contains_later p (union a b) i (union-has a b i later)) (first_or_later p (a ++ b) i m))
 
 pub union-all : (a b all : List ℕ) → IsWithin a all → IsWithin b all → IsWithin (union a b) all
 union-all a b all h k i m = ⊎_elim (λ (l : Contains a i). h i l) (λ (r : Contains b i). k i r) (Contains-append_cases a b i (union-within a b i m))
@@ -154,7 +154,7 @@ union-ascends (p ∷ a) b h = with_position-ascends p (union a b) (union-ascends
 pub union-append : (a b : List ℕ) → Ascends a → AreBelow a b → union a b ≡ a ++ b
 union-append [] b h below = refl
 union-append (p ∷ a) b h below =
-    let rest : union a b ≡ a ++ b = union-append a b h.1 (λ x y m n. below x y (contains_later p x a m) n) in
+    let rest : union a b ≡ a ++ b = union-append a b h.1 (λ x y m n. below x y (contains_later p a x m) n) in
     let first : (y : ℕ) → Contains (a ++ b) y → p < y = λ y m. ⊎_elim (λ (l : Contains a y). h.0 y l) (λ (r : Contains b y). below p y (contains_first p a) r) (Contains-append_cases a b y m) in
     rw rest (with_position-first p (a ++ b) first)
 

@@ -8,8 +8,9 @@ use Rattle.pref_sets.specs.Kept.{IsKept, with_item}
 use Rattle.pref_sets.specs.Trimmed.{IsTrimmed}
 use Rattle.pref_sets.specs.TrimmedBehind.{IsTrimmedBehind}
 use Rattle.pref_sets.specs.Preferred.{IsWithin, IsDistinct, IsPreferredTo, IsPreferredConflictTo}
-use Rattle.pref_sets.proofs.TrimLaws.{IsMonotone, IsTrimmedBehind-within, contains_first, contains_later, contains_none, only}
-use Rattle.pref_sets.proofs.BestLaws.{IsAntitone, within_kept, first_or_later, greedy-apart, behind-from_IsTrimmed}
+use Rattle.pref_sets.proofs.TrimLaws.{IsMonotone, IsTrimmedBehind-within, only}
+use Rattle.pref_sets.proofs.BestLaws.{IsAntitone, within_kept, greedy-apart, behind-from_IsTrimmed}
+use Rattle.lists.proofs.Members.{first as contains_first, later as contains_later, none as contains_none, first_or_later}
 
 -- what is kept was there or is of the items
 kept_from : (P : List ℕ → Type 0) (items set kept : List ℕ) → IsGreedy P with_item set items kept → (i : ℕ) → Contains kept i → Contains set i ⊎ Contains items i
@@ -18,10 +19,10 @@ kept_from P (x ∷ items) set kept (inl g) i m =
     ⊎_elim
     (λ (l : Contains (set ++ x ∷ []) i).
     ⊎_elim (λ (s : Contains set i). inl s) (λ (r : Contains (x ∷ []) i). inr (Contains-append_left (x ∷ []) items i r)) (Contains-append_cases set (x ∷ []) i l))
-    (λ (r : Contains items i). inr (contains_later x i items r))
+    (λ (r : Contains items i). inr (contains_later x items i r))
     (kept_from P items (set ++ x ∷ []) kept g.1 i m)
 kept_from P (x ∷ items) set kept (inr g) i m =
-    ⊎_elim (λ (l : Contains set i). inl l) (λ (r : Contains items i). inr (contains_later x i items r)) (kept_from P items set kept g.1 i m)
+    ⊎_elim (λ (l : Contains set i). inl l) (λ (r : Contains items i). inr (contains_later x items i r)) (kept_from P items set kept g.1 i m)
 
 step_keeps : (P : List ℕ → Type 0) → IsAntitone P → (x : ℕ) (after middle kept other : List ℕ) → IsGreedy P with_item middle (x ∷ after) kept → P other → IsWithin middle other → Contains other x → Contains kept x
 step_keeps P fewer x after middle kept other (inl g) h w there = within_kept P after (middle ++ x ∷ []) kept g.1 x (Contains-push middle x)
@@ -57,7 +58,7 @@ behind-preferred P more [] back x after left d t other h w m =
     ⊎_elim
     (λ (same : x ≡ j). absurd (d.0 (rw (sym same) at r.0)))
     (λ (l : Contains t.0 j). Contains-append_right back t.0 j l)
-    (first_or_later x j t.0 there))
+    (first_or_later x t.0 j there))
     (w j k) in
     n.0 (more other (back ++ t.0) inside h))
     t.2
@@ -69,7 +70,7 @@ behind-preferred P more (y ∷ before) back x after left d t other h w m =
     (λ (q : P (back ++ t.0) × (left ≡ t.0)). rw q.1 at k)
     (λ (n : (¬ P (back ++ t.0)) × (left ≡ y ∷ t.0)).
     let there : Contains (y ∷ t.0) j = rw n.1 at k in
-    ⊎_elim (λ (same : y ≡ j). absurd (ne same)) (λ (l : Contains t.0 j). l) (first_or_later y j t.0 there))
+    ⊎_elim (λ (same : y ≡ j). absurd (ne same)) (λ (l : Contains t.0 j). l) (first_or_later y t.0 j there))
     t.2 in
     let at_x : Contains (before ++ x ∷ after) x = Contains-append_right before (x ∷ after) x (contains_first x after) in
     behind-preferred P more before (back ++ y ∷ []) x after t.0 d.1 t.1 other h
@@ -77,7 +78,7 @@ behind-preferred P more (y ∷ before) back x after left d t other h w m =
     ⊎_elim
     (λ (l : Contains (back ++ y ∷ before) j). inl (rw whole l))
     (λ (r : Contains after j × Contains left j).
-    let there : Contains (before ++ x ∷ after) j = Contains-append_right before (x ∷ after) j (contains_later x j after r.0) in
+    let there : Contains (before ++ x ∷ after) j = Contains-append_right before (x ∷ after) j (contains_later x after j r.0) in
     inr (r.0, inner j r.1 (not_y j there)))
     (w j k))
     (inner x m (not_y x at_x))
@@ -97,6 +98,6 @@ IsTrimmed-preferred P more items left d g other h w e =
     ⊎_elim
     (λ (same : x ≡ j). absurd (e.5 (rw (sym same) at k)))
     (λ (later : Contains after j). inr (later, (e.4 j later).0 k))
-    (first_or_later x j after r))
+    (first_or_later x after j r))
     (Contains-append_cases before (x ∷ after) j there))
     e.6

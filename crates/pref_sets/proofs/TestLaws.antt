@@ -1,5 +1,5 @@
 -- The numbers from a on are distinct.
-use Rattle.std.proofs.Common.{◌≡◌, ℕ, zero, suc, ◌+◌, ◌<◌, Bool, true, false, eqb, ◌||◌, ⊎_elim, List, [], ◌∷◌, ◌++◌, length, get_or, refl, sym, ◌∙◌, ap, arith, add-zero}
+use Rattle.std.proofs.Common.{◌≡◌, ℕ, zero, suc, ◌+◌, ◌<◌, Bool, true, false, eqb, ◌||◌, ⊎_elim, List, [], ◌∷◌, length, get_or, refl, sym, ◌∙◌, ap, arith}
 use Rattle.std.specs.Prelude.{Contains}
 use Rattle.std.specs.List.{range_with_len, list_any}
 use Rattle.std.proofs.lemmas.Bool.{eq-eqb, eqb-true, cases_Bool, false≢true}
@@ -17,18 +17,6 @@ IsDistinct-range a (suc m) = (
       omega arith),
   IsDistinct-range (a + 1) m,
 )
-
-pub range_with_len-push : (a m : ℕ) → range_with_len a (m + 1) ≡ range_with_len a m ++ (a + m) ∷ []
-range_with_len-push a zero = rw add-zero refl
-range_with_len-push a (suc m) =
-    let more : suc m + 1 ≡ suc (m + 1) = omega arith in
-    let last : (a + 1) + m ≡ a + suc m = omega arith in
-    ap (range_with_len a) more ∙ ap (λ t. a ∷ t) (range_with_len-push (a + 1) m ∙ ap (λ k. range_with_len (a + 1) m ++ k ∷ []) last)
-
-get_or-default : (xs : List ℕ) (k d e : ℕ) → k < length xs → get_or xs k d ≡ get_or xs k e
-get_or-default [] k d e l = absurd (omega arith)
-get_or-default (x ∷ xs) zero d e l = refl
-get_or-default (x ∷ xs) (suc k) d e l = get_or-default xs k d e (omega arith)
 
 any-at : (xs : List ℕ) (k x : ℕ) → k < length xs → get_or xs k x ≡ x → list_any (λ y. eqb y x) xs ≡ true
 any-at [] k x l e = absurd (omega arith)

@@ -10,6 +10,7 @@ use Rattle.pref_sets.specs.Greedy.{IsGreedy}
 use Rattle.pref_sets.specs.Trimmed.{IsTrimmed, without_item}
 use Rattle.pref_sets.specs.TrimmedBehind.{IsTrimmedBehind}
 use Rattle.pref_sets.specs.Preferred.{IsWithin, IsDistinct}
+use Rattle.lists.proofs.Members.{first as contains_first, later as contains_later, none as contains_none}
 
 -- a property of all lists that passes to every list with more members
 abbrev pub IsMonotone : (List ℕ → Type 0) → Type 0
@@ -108,12 +109,6 @@ IsTrimmedBehind-within P (x ∷ items) before left t i m =
     ⊎_elim (λ (first : Contains (x ∷ []) i). Contains-append_left (x ∷ []) items i first) (λ (rest : Contains t.0 i). beyond i rest) (Contains-append_cases (x ∷ []) t.0 i there))
     t.2
 
-pub contains_first : (x : ℕ) (xs : List ℕ) → Contains (x ∷ xs) x
-contains_first x xs = (0, omega arith, refl)
-
-pub contains_later : (y x : ℕ) (xs : List ℕ) → Contains xs x → Contains (y ∷ xs) x
-contains_later y x xs m = Contains-append_right (y ∷ []) xs x m
-
 only_at : (x i k : ℕ) → k < length (x ∷ []) → get_or (x ∷ []) k i ≡ i → x ≡ i
 only_at x i zero l e = e
 only_at x i (suc k) l e = absurd (omega arith)
@@ -121,14 +116,11 @@ only_at x i (suc k) l e = absurd (omega arith)
 pub only : (x i : ℕ) → Contains (x ∷ []) i → x ≡ i
 only x i m = only_at x i m.0 m.1 m.2
 
-pub contains_none : (i : ℕ) → Contains [] i → ⊥
-contains_none i m = let l : m.0 < 0 = m.1 in omega arith
-
 -- a list without what it doesn't have is itself
 pub without_item-absent : (xs : List ℕ) (x : ℕ) → (Contains xs x → ⊥) → without_item xs x ≡ xs
 without_item-absent [] x h = refl
 without_item-absent (y ∷ ys) x h =
-    rw (ne_eqb y x (λ e. h (rw e (contains_first x ys))), without_item-absent ys x (λ m. h (contains_later y x ys m))) refl
+    rw (ne_eqb y x (λ e. h (rw e (contains_first x ys))), without_item-absent ys x (λ m. h (contains_later y ys x m))) refl
 
 without_item-first : (x : ℕ) (xs : List ℕ) → (Contains xs x → ⊥) → without_item (x ∷ xs) x ≡ xs
 without_item-first x xs h = rw (eq-eqb x x refl, without_item-absent xs x h) refl
@@ -153,7 +145,7 @@ IsGreedy-behind P (x ∷ items) before left d apart t =
     let whole : (before ++ x ∷ []) ++ items ≡ before ++ x ∷ items = append_assoc before (x ∷ []) items in
     let kept : (before ++ x ∷ []) ++ later ≡ before ++ x ∷ later = append_assoc before (x ∷ []) later in
     let apart_later : (i : ℕ) → Contains (before ++ x ∷ []) i → Contains items i → ⊥ =
-    λ i m n. ⊎_elim (λ (l : Contains before i). apart i l (contains_later x i items n)) (λ (r : Contains (x ∷ []) i). d.0 (rw (sym (only x i r)) at n)) (Contains-append_cases before (x ∷ []) i m) in
+    λ i m n. ⊎_elim (λ (l : Contains before i). apart i l (contains_later x items i n)) (λ (r : Contains (x ∷ []) i). d.0 (rw (sym (only x i r)) at n)) (Contains-append_cases before (x ∷ []) i m) in
     let first : IsGreedy P without_item (before ++ x ∷ items) (reverse items) (before ++ x ∷ later) =
     rw whole at (rw kept at (IsGreedy-behind P items (before ++ x ∷ []) later d.1 apart_later t.1)) in
     let out : without_item (before ++ x ∷ later) x ≡ before ++ later =

@@ -1,11 +1,7 @@
 -- What the two greedy sets are in the field's words (Junker 2004): the items stand in the order of their
 -- importance, the most important first, and one set is preferred to another by the order of the items.
-use Rattle.std.specs.Prelude.{◌≡◌, ◌↔◌, ℕ, List, [], ◌∷◌, ◌++◌, Contains}
-
--- no item stands twice
-abbrev pub IsDistinct : List ℕ → Type 0
-IsDistinct [] = Unit {0}
-IsDistinct (item ∷ items) = (¬ Contains items item) × IsDistinct items
+use Rattle.std.specs.Prelude.{◌≡◌, ◌↔◌, ℕ, List, ◌∷◌, ◌++◌, Contains}
+pub use Rattle.lists.specs.Distinct.{IsDistinct}
 
 -- each member of `a` is in `b`
 abbrev pub IsWithin : List ℕ → List ℕ → Type 0

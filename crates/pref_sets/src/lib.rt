@@ -6,7 +6,6 @@
 #![tactic(auto)]
 
 mod laws;
-mod numbers;
 mod recursions;
 #[cfg(test)]
 mod tests;
@@ -16,7 +15,7 @@ pub use laws::{
     Growing, Property, Relaxable, Shrinking, kept_set_is_maximal, kept_set_is_unique,
     kept_set_of_a_test, trimmed_set_is_minimal, trimmed_set_is_unique, trimmed_set_of_a_test,
 };
-pub use numbers::Numbers;
+pub use lists::Numbers;
 pub use recursions::{
     answers_in_turn, fd_asks_new_sets, fd_ends, fd_goes_by_halves, fd_is_kept, fd_of_closed_table,
     qx_asks_new_sets, qx_ends, qx_goes_by_halves, qx_is_trimmed, qx_of_closed_table,

@@ -11,7 +11,7 @@ ghost use Rattle.pref_sets.specs.QuickXplain.{qx};
 ghost use Rattle.pref_sets.specs.Trimmed.{IsTrimmed};
 
 use crate::laws::Shrinking;
-use crate::numbers::Numbers;
+use lists::Numbers;
 use crate::recursions::{fd_is_kept, qx_is_trimmed, right_answers_agree};
 use crate::trimming::{MonotoneTest, trim};
 use std::alloc::{AllocError, Global};

@@ -4,7 +4,7 @@ ghost use Rattle.pref_sets.specs.Preferred.{IsWithin, IsDistinct};
 ghost use Rattle.pref_sets.specs.Trimmed.{IsTrimmed};
 ghost use Rattle.pref_sets.specs.TrimmedBehind.{IsTrimmedBehind};
 
-use crate::numbers::Numbers;
+use lists::Numbers;
 use std::alloc::{AllocError, Global};
 
 /// A test of sets of items that keeps holding when a set gets more members.

@@ -9,7 +9,7 @@ use Rattle.clauses.specs.Clause.{negative_of, unit_of}
 use Rattle.clauses.specs.Closure.{closure, clash, AreAmong}
 use Rattle.clauses.specs.Problem.{ClauseProblem, clauses_with, roots_at}
 use Rattle.clauses.specs.Search.{Standing, all_false, under}
-use Rattle.clauses.proofs.Members.{from_map, to_map}
+use Rattle.lists.proofs.Members.{from_map, to_map}
 use Rattle.clauses.proofs.LeastLaws.{closure-among}
 use Rattle.propagation.specs.Propagation.{all_of, propagated, as_searched, value_of}
 use Rattle.propagation.specs.Values.{value_at, IsSound, Shows, IsPart}

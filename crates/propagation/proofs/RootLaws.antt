@@ -12,7 +12,7 @@ use Rattle.clauses.specs.declared.literal.Lit.{Lit}
 use Rattle.clauses.specs.Clause.{unit_of}
 use Rattle.clauses.specs.Closure.{clash}
 use Rattle.clauses.specs.Problem.{ClauseProblem, IsProblem, clauses_with, roots_at}
-use Rattle.clauses.proofs.Members.{none, from_map, to_map}
+use Rattle.lists.proofs.Members.{none, from_map, to_map}
 use Rattle.clauses.proofs.LeastLaws.{clash-among}
 use Rattle.propagation.specs.Propagation.{Propagation, all_of, propagated}
 use Rattle.propagation.specs.Roots.{AreRooted}

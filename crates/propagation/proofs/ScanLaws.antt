@@ -9,7 +9,7 @@ use Rattle.std.proofs.lemmas.List.Sums.{sum_by-set}
 use Rattle.clauses.specs.declared.literal.Lit.{Lit}
 use Rattle.clauses.specs.Clause.{negation}
 use Rattle.clauses.specs.Closure.{closure, clash, IsClosed}
-use Rattle.clauses.proofs.Members.{first}
+use Rattle.lists.proofs.Members.{first}
 use Rattle.clauses.proofs.LeastLaws.{closure-closed, closure-least, clash-iff}
 use Rattle.propagation.specs.Propagation.{value_of}
 use Rattle.propagation.specs.Values.{value_at, IsTrueIn, IsFalseIn, IsSound, IsPart, open_count, IsForced, HasTwoOpen, IsSettled, IsScan, Finds, Shows, joined}

@@ -2,19 +2,15 @@
 use Rattle.std.proofs.Common.{◌≡◌, ℕ, zero, suc, ◌<◌, ◌↔◌, Bool, true, false, List, [], ◌∷◌, length, get_or, refl, sym, ◌∙◌, arith, ⊎_elim}
 use Rattle.std.specs.Prelude.{All, Contains}
 use Rattle.std.specs.List.{list_all}
+use Rattle.std.proofs.lemmas.List.{get_or_default}
 use Rattle.std.proofs.lemmas.List.Elements.{All-nil, All-cons, All-head, All-tail}
 use Rattle.std.proofs.lemmas.Bool.{cases_eq, cases_Bool, false≢true, and_parts, and_from}
 use Rattle.req_keys.specs.Positions.{has}
 use Rattle.req_keys.proofs.SearchLaws.{has-get_or}
 use Rattle.req_keys.proofs.PositionsLaws.{has-other}
 
-get_or-default : (xs : List ℕ) (k d e : ℕ) → k < length xs → get_or xs k d ≡ get_or xs k e
-get_or-default [] k d e l = absurd (omega arith)
-get_or-default (x ∷ xs) zero d e l = refl
-get_or-default (x ∷ xs) (suc k) d e l = get_or-default xs k d e (omega arith)
-
 pub has-from_Contains : (xs : List ℕ) (x : ℕ) → Contains xs x → has xs x ≡ true
-has-from_Contains xs x h = has-get_or xs h.0 x h.1 (get_or-default xs h.0 0 x h.1 ∙ h.2)
+has-from_Contains xs x h = has-get_or xs h.0 x h.1 (get_or_default xs h.0 0 x h.1 ∙ h.2)
 
 pub Contains-from_has : (xs : List ℕ) (x : ℕ) → has xs x ≡ true → Contains xs x
 Contains-from_has [] x e = absurd (false≢true e)

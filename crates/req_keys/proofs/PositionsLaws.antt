@@ -3,6 +3,7 @@ use Rattle.std.proofs.Common.{◌≡◌, ℕ, zero, suc, ◌+◌, ◌<◌, ◌�
 use Rattle.std.proofs.lemmas.Bool.{cases_eq, eq-eqb, ne_eqb}
 use Rattle.std.specs.List.{range_with_len, filter}
 use Rattle.std.proofs.lemmas.List.Elements.{filter-append}
+use Rattle.lists.proofs.Ranges.{range_with_len-push}
 use Rattle.req_keys.specs.Key.{IsKey, key_where}
 use Rattle.req_keys.specs.Positions.{RiseWithin, has, positions_where}
 
@@ -131,14 +132,6 @@ IsKey-key_where n test h = (h, RiseWithin-filter_range test 1 n 0 n (omega arith
 pub RiseWithin-range : (a m low high : ℕ) → low < a → a + m ≤ high + 1 → RiseWithin low high (range_with_len a m)
 RiseWithin-range a zero low high l h = tt
 RiseWithin-range a (suc m) low high l h = (l, omega arith, RiseWithin-range (a + 1) m a high (omega arith) (omega arith))
-
--- one number more
-pub range_with_len-push : (a m : ℕ) → range_with_len a (m + 1) ≡ range_with_len a m ++ (a + m) ∷ []
-range_with_len-push a zero = rw add-zero refl
-range_with_len-push a (suc m) =
-    let more : suc m + 1 ≡ suc (m + 1) = omega arith in
-    let last : (a + 1) + m ≡ a + suc m = omega arith in
-    ap (range_with_len a) more ∙ ap (λ t. a ∷ t) (range_with_len-push (a + 1) m ∙ ap (λ k. range_with_len (a + 1) m ++ k ∷ []) last)
 
 -- a test of one number more
 pub filter-range_push : (p : ℕ → Bool) (a m : ℕ) → filter p (range_with_len a (m + 1)) ≡ filter p (range_with_len a m) ++ cond (p (a + m)) ((a + m) ∷ []) []

@@ -15,7 +15,8 @@ use Rattle.std.proofs.lemmas.Bool.{cases_lt, eq-eqb, ne_eqb, false≢true}
 use Rattle.req_keys.specs.Positions.{RiseWithin, has, positions_where}
 use Rattle.req_keys.specs.Key.{PositionSet}
 use Rattle.req_keys.specs.Words.{bits_where, word_count, word_of, words_of, bit_of, key_of_words, IsRowOver}
-use Rattle.req_keys.proofs.PositionsLaws.{range_with_len-push, filter-range_push, has-low, has-first, has-other, RiseWithin-lower, has-filter_range, has-high, positions_where-has, filter-range_agree, RiseWithin-filter_range}
+use Rattle.lists.proofs.Ranges.{range_with_len-push}
+use Rattle.req_keys.proofs.PositionsLaws.{filter-range_push, has-low, has-first, has-other, RiseWithin-lower, has-filter_range, has-high, positions_where-has, filter-range_agree, RiseWithin-filter_range}
 
 pub bits_where-zero : (t : ℕ → Bool) → bits_where t 0 ≡ 0
 unfolding bits_where

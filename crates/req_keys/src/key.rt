@@ -10,7 +10,7 @@ ghost use Rattle.req_keys.specs.KeyEq.{key_eq-same};
 ghost use Rattle.req_keys.specs.Order.{key_cmp, key_eq};
 ghost use Rattle.req_keys.specs.Words.{word_count, word_of, words_of, key_of_words, key_hash, IsRowOver};
 
-use crate::lists::Numbers;
+use lists::Numbers;
 use crate::merge;
 use std::alloc::{AllocError, Global};
 use std::cmp::Ordering;

@@ -6,7 +6,7 @@
 
 mod key;
 mod laws;
-mod lists;
+mod key_lists;
 mod merge;
 #[cfg(test)]
 mod tests;
@@ -17,5 +17,6 @@ pub use laws::{
     disjointness_is_of_members, equal_keys_are_one, membership_is_containing,
     order_is_of_diagnoses, subset_is_of_members, words_and_keys_are_inverse,
 };
-pub use lists::{Keys, Numbers};
+pub use key_lists::Keys;
+pub use lists::Numbers;
 pub use verdict::{Cell, Verdict, Want};

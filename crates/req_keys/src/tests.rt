@@ -2,7 +2,8 @@
 ghost use Rattle.std.specs.Prelude.{◌≤◌};
 
 use crate::key::Key;
-use crate::lists::{Keys, Numbers};
+use crate::key_lists::Keys;
+use lists::Numbers;
 use crate::verdict::{Cell, Verdict, Want};
 use std::alloc::{AllocError, Global};
 use std::cmp::Ordering;

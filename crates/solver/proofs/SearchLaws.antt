@@ -17,7 +17,7 @@ use Rattle.clauses.specs.Clause.{has, positive_of, negative_of, unit_of}
 use Rattle.clauses.specs.Closure.{closure, clash, AreAmong}
 use Rattle.clauses.specs.Problem.{IsBelow}
 use Rattle.clauses.specs.Search.{Turn, all_false, some_true, clashing, cut_after, turn_at_learning, up_to}
-use Rattle.clauses.proofs.Members.{none, first, later, first_or_later, from_filter}
+use Rattle.lists.proofs.Members.{none, first, later, first_or_later, from_filter}
 use Rattle.clauses.proofs.TurnLaws.{IsTurn, answers, decides, refutes, gives_up, learns, turn_is}
 use Rattle.clauses.proofs.TrimmedLaws.{trimmed-within}
 use Rattle.propagation.specs.Propagation.{value_of}
@@ -26,7 +26,7 @@ use Rattle.propagation.proofs.GrowthLaws.{there, back}
 use Rattle.solver.specs.TestLaws.{more-clash}
 use Rattle.solver.specs.Trials.{Trying, with_false, variables_in, Clashes}
 use Rattle.solver.specs.Searching.{Searching, standing, clauses_of, all_under, turn_of, IsShown, IsSearch}
-use Rattle.solver.proofs.TrialLaws.{distinct-push}
+use Rattle.lists.proofs.Distinct.{distinct-push}
 
 -- ---- what is tried, in the order of the definition of the search
 

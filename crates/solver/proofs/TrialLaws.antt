@@ -11,7 +11,8 @@ use Rattle.clauses.specs.declared.literal.Lit.{Lit}
 use Rattle.clauses.specs.Clause.{negation, positive_of, negative_of, unit_of}
 use Rattle.clauses.specs.Closure.{closure, clash, IsClosed}
 use Rattle.clauses.specs.Problem.{ClauseProblem}
-use Rattle.clauses.proofs.Members.{none, first, later, first_or_later, from_map, to_map, from_filter, to_filter}
+use Rattle.lists.proofs.Distinct.{distinct-push}
+use Rattle.lists.proofs.Members.{none, first, later, first_or_later, from_map, to_map, from_filter, to_filter}
 use Rattle.clauses.proofs.TrimmedLaws.{clash-from_refuted, refuted-from_clash}
 use Rattle.clauses.proofs.Counting.{fails, fails-most, fails-less}
 use Rattle.clauses.proofs.EnoughLaws.{among, among-from, from_among}
@@ -120,13 +121,6 @@ tried-negative (x ∷ xs) = ap (λ rest. x ∷ rest) (tried-negative xs)
 map-push : {X Y : Type 0} (f : X → Y) (xs : List X) (x : X) → map f (xs ++ x ∷ []) ≡ map f xs ++ f x ∷ []
 map-push f [] x = refl
 map-push f (y ∷ ys) x = ap (λ rest. f y ∷ rest) (map-push f ys x)
-
-pub distinct-push : (xs : List ℕ) (x : ℕ) → IsDistinct xs → ¬ Contains xs x → IsDistinct (xs ++ x ∷ [])
-distinct-push [] x d f = (none x, tt)
-distinct-push (y ∷ ys) x d f = (
-  (λ m. ⊎_elim (λ (old : Contains ys y). d.0 old) (λ (e : x ≡ y). f (subst (Contains (y ∷ ys)) (sym e) (first y ys))) (Contains-push_cases ys x y m)),
-  distinct-push ys x d.1 (λ m. f (later y ys x m)),
-)
 
 module _ (problem : ClauseProblem) (at : Propagation) (fixed : ℕ) (is : IsTrial problem at fixed) where
   abbrev tried : List ℕ

@@ -6,7 +6,7 @@ use Rattle.pref_sets.specs.Preferred.{IsWithin}
 use Rattle.clauses.specs.declared.literal.Lit.{Lit}
 use Rattle.clauses.specs.Clause.{negative_of, unit_of}
 use Rattle.clauses.specs.Closure.{closure, clash}
-use Rattle.clauses.proofs.Members.{from_map, to_map, from_filter, to_filter}
+use Rattle.lists.proofs.Members.{from_map, to_map, from_filter, to_filter}
 use Rattle.clauses.proofs.LeastLaws.{closure-among, clash-among}
 use Rattle.propagation.proofs.ValueLaws.{part-among}
 use Rattle.solver.specs.Trials.{Trying, with_false, variables_in, Clashes, SameButTried}

@@ -6,7 +6,7 @@ ghost use Rattle.feature_tree.specs.Descent.{Answers, pair_of, node_of, joined_w
 use crate::formula::{Formula, Formulas};
 use crate::reader::error::FormulaError;
 use crate::reader::role::Level;
-use crate::row::Row;
+use lists::Row;
 use sqlite_items::Boxed;
 use std::alloc::{AllocError, Global};
 

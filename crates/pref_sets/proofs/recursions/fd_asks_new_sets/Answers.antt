@@ -3,7 +3,7 @@ use Rattle.pref_sets.specs.Preferred.{IsWithin}
 use Rattle.pref_sets.proofs.FastDiagLaws.{fd_plan, fd_part-plan, fd_plan-within, fd_plan-ascends}
 use Rattle.pref_sets.proofs.PlanLaws.{AsksOnly-asked, over-new}
 use Rattle.pref_sets.proofs.PositionLaws.{Ascends, Ascends-from_increasing, IsStrictlyIncreasing-from_Ascends}
-use Rattle.pref_sets.proofs.TrimLaws.{contains_none}
+use Rattle.lists.proofs.Members.{none as contains_none}
 use Rattle.pref_sets.proofs.recursions.fd_asks_new_sets.Goals as goal
 
 pub returns-clause-new : goal.returns-clause-new

@@ -4,7 +4,7 @@ use Rattle.pref_sets.proofs.FastDiagLaws.{fd_plan, fd_part-plan, fd_plan-within,
 use Rattle.pref_sets.proofs.KeptByHalves.{fd-kept, fd_behind-kept}
 use Rattle.pref_sets.proofs.PlanLaws.{AsksOnly-found}
 use Rattle.pref_sets.proofs.PositionLaws.{Ascends, Ascends-from_increasing, IsStrictlyIncreasing-from_Ascends}
-use Rattle.pref_sets.proofs.TrimLaws.{contains_none}
+use Rattle.lists.proofs.Members.{none as contains_none}
 use Rattle.pref_sets.proofs.recursions.fd_is_kept.Goals as goal
 
 pub returns-clause-kept : goal.returns-clause-kept

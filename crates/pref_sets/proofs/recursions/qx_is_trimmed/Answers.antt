@@ -5,7 +5,7 @@ use Rattle.pref_sets.proofs.QuickXplainLaws.{qx_plan, qx_part-plan, qx_plan-with
 use Rattle.pref_sets.proofs.TrimmedByHalves.{qx-trimmed, Fails, more-fails}
 use Rattle.pref_sets.proofs.PlanLaws.{AsksOnly-found}
 use Rattle.pref_sets.proofs.PositionLaws.{Ascends, Ascends-from_increasing, IsStrictlyIncreasing-from_Ascends, IsDistinct-from_Ascends}
-use Rattle.pref_sets.proofs.TrimLaws.{contains_none}
+use Rattle.lists.proofs.Members.{none as contains_none}
 use Rattle.pref_sets.proofs.recursions.qx_is_trimmed.Goals as goal
 
 pub returns-clause-trimmed : goal.returns-clause-trimmed

@@ -1,6 +1,6 @@
 -- A name answers what was set under it last, and every other name what it did.
 use Rattle.std.proofs.Common.{arith}
-use Rattle.std.proofs.lemmas.Map.Text.{text_keys, btree_map_updates_text}
+use Rattle.std.proofs.lemmas.Map.Text.{text_keys}
 use Rattle.diag_base.proofs.mem_shelf.MemShelf.set.Goals as goal
 
 pub returns-clause-ok : goal.returns-clause-ok

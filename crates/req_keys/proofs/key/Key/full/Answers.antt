@@ -1,7 +1,8 @@
 use Rattle.std.proofs.Common.{◌≡◌, ℕ, List, ◌+◌, ◌∙◌, ◌++◌, ◌∷◌, [], ap, sym, arith}
 use Rattle.std.specs.List.{range_with_len}
 use Rattle.req_keys.specs.Key.{PositionSet}
-use Rattle.req_keys.proofs.PositionsLaws.{RiseWithin-range, range_with_len-push}
+use Rattle.req_keys.proofs.PositionsLaws.{RiseWithin-range}
+use Rattle.lists.proofs.Ranges.{range_with_len-push}
 use Rattle.req_keys.proofs.key.Key.full.Goals as goal
 
 pub loop-i-preserved : goal.loop-i-preserved

@@ -14,10 +14,10 @@ use Rattle.std.specs.formers.vec.Vec as vec
 use Rattle.std.specs.declared.alloc.Global.{Global}
 use Rattle.std.specs.contracts.alloc.Global as heap
 use Rattle.std.specs.contracts.impls.GlobalAllocator.TheImpl.{ghosts}
-use Rattle.feature_tree.specs.declared.row.Row.TheInside.{Inside}
-use Rattle.feature_tree.specs.declared.row.Row.TheView.{view, invariant}
-use Rattle.feature_tree.specs.contracts.row.Row as whole
-use Rattle.feature_tree.specs.contracts.row.Row.TheInside as within
+use Rattle.lists.specs.declared.row.Row.TheInside.{Inside}
+use Rattle.lists.specs.declared.row.Row.TheView.{view, invariant}
+use Rattle.lists.specs.contracts.row.Row as whole
+use Rattle.lists.specs.contracts.row.Row.TheInside as within
 
 -- the way from a type to the lists of it
 abbrev pub the_former : Former {0} → Former {0}

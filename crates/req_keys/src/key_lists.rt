@@ -1,0 +1,6 @@
+//! Lists of positions and of keys.
+use crate::key::Key;
+use lists::Row;
+
+/// A list of keys.
+pub type Keys = Row<Key>;
