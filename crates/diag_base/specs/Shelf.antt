@@ -1,5 +1,6 @@
 -- What a fetch from a shelf may answer. Own to this project.
-use Rattle.std.specs.Prelude.{◌≡◌, ℕ, ◌<◌, ◌≤◌, List, length, Option, Some, Result, Ok, Err}
+use Rattle.std.specs.Prelude.{◌≡◌, ℕ, ◌+◌, ◌<◌, ◌≤◌, List, length, Option, Some, Result, Ok, Err, min}
+use Rattle.diag_base.specs.Faults.{LAST}
 use Rattle.diag_base.specs.declared.shelf.Fetched.{Fetched}
 use Rattle.diag_base.specs.declared.shelf.Fetched.TheVariants.{Whole, Longer}
 use Rattle.diag_base.specs.declared.shelf.FetchError.{FetchError}
@@ -30,3 +31,9 @@ abbrev pub Loses : List ℕ → Option (List ℕ) → Option (List ℕ) → Resu
 Loses name before now (Ok fetched) = now ≡ before
 Loses name before now (Err Failed) = now ≡ Some name
 Loses name before now (Err Memory) = now ≡ before
+
+-- the count of faults is one more after a failure, up to its last value, and else what it was
+abbrev pub Counts : ℕ → ℕ → Result Fetched FetchError → Type 0
+Counts before now (Ok fetched) = now ≡ before
+Counts before now (Err Failed) = now ≡ min (before + 1) LAST
+Counts before now (Err Memory) = now ≡ before

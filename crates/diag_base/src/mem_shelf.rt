@@ -1,6 +1,7 @@
+//! A shelf in memory.
 ghost use Rattle.std.specs.Prelude.{◌≡◌, ◌≢◌, ◌==◌, ℕ, ◌+◌, ◌<◌, ◌≤◌, ◌^◌, ◌++◌, ◌↔◌, [], ◌∷◌, None, Some, IfSome, OnOk, OnErr, IsErrOf, min, cond, List, ◌⊎◌, Err};
 ghost use Rattle.diag_base.specs.Faults.{Rises, LAST};
-ghost use Rattle.diag_base.specs.Shelf.{IsShort, Tells, Loses};
+ghost use Rattle.diag_base.specs.Shelf.{IsShort, Tells, Loses, Counts};
 ghost use Rattle.std.specs.Str.{bytes_eq};
 
 use crate::{Bytes, FetchError, Fetched, Shelf};
@@ -62,7 +63,7 @@ impl MemShelf {
         Ok(())
     }
 
-    // Counts a failed fetch and keeps its name.
+    /// Counts a failed fetch and keeps its name.
     fn lose(&mut self, alloc: Global, name: &str) -> FetchError
         ensures error { (result ≡ FetchError.Failed) ⊎ (result ≡ FetchError.Memory) }
         ensures lost { result ≡ FetchError.Failed → lost_of self.new ≡ Some name.now }
@@ -104,7 +105,8 @@ impl Shelf for MemShelf {
         ensures never_falls { faults_of self.old ≤ faults_of self.new }
         ensures same { Some (files_of self.new) ≡ Some (files_of self.old) }
 
-        // It fails exactly where it was told to, and at a name that isn't there.
+        // It fails exactly where it was told to, and at a name that isn't there, and counts each failure once.
+        ensures counts { Counts (faults_of self.old) (faults_of self.new) result }
         ensures fails { result ≢ Err FetchError.Memory → IsErrOf result FetchError.Failed ↔ MustFail self.old name.now }
         ensures calls { calls_of self.new ≡ min (calls_of self.old + 1) LAST }
         ensures failing { failing_of self.new ≡ failing_of self.old }

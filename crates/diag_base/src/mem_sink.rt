@@ -1,7 +1,8 @@
+//! A sink in memory.
 ghost use Rattle.std.specs.Prelude.{◌≡◌, ◌==◌, ℕ, ◌+◌, ◌<◌, ◌≤◌, ◌++◌, ◌↔◌, [], ◌∷◌, Some, IfOk, OnOk, OnErr, IsErr, min, take, length};
 ghost use Rattle.std.specs.Vec.{vec_capacity};
 ghost use Rattle.diag_base.specs.Faults.{Rises, LAST};
-ghost use Rattle.diag_base.specs.Sink.{Gains, GainsPart};
+ghost use Rattle.diag_base.specs.Sink.{Gains, GainsPart, Counts};
 
 use crate::{PutFailed, Sink};
 use std::alloc::{AllocError, Global};
@@ -59,7 +60,7 @@ impl MemSink {
         self.written.as_slice()
     }
 
-    // Where the next put is to stop, if it is to fail.
+    /// Where the next put is to stop, if it is to fail.
     fn stop(&self) -> Option<usize>
         ensures { result ≡ stop_of self.now }
     {
@@ -71,7 +72,7 @@ impl MemSink {
         None
     }
 
-    // Puts bytes that fit behind what was written.
+    /// Puts bytes that fit behind what was written.
     fn append(&mut self, bytes: &[u8])
         requires { length bytes.now ≤ left_of self.old }
         ensures room { room_of self.new ≡ room_of self.old }
@@ -98,7 +99,9 @@ impl Sink for MemSink {
         ensures failed { OnErr result (Rises (faults_of self.old) (faults_of self.new)) }
         ensures never_falls { faults_of self.old ≤ faults_of self.new }
 
-        // It fails exactly where it was told to, and past its room, and takes what it was told and what fits.
+        // It fails exactly where it was told to, and past its room, and takes what it was told and what fits. It counts
+        // each failure once.
+        ensures counts { Counts (faults_of self.old) (faults_of self.new) result }
         ensures fails { IsErr result ↔ MustFail self.old bytes.now }
         ensures taken { OnErr result (written_of self.new ≡ written_of self.old ++ take (taken_of self.old bytes.now) bytes.now) }
         ensures puts { puts_of self.new ≡ min (puts_of self.old + 1) LAST }

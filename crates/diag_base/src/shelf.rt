@@ -1,3 +1,4 @@
+//! Where files are fetched from.
 ghost use Rattle.std.specs.Prelude.{◌≡◌, ℕ, ◌<◌, ◌≤◌, ◌^◌, List, Option, IfSome, IsErrOf};
 ghost use Rattle.diag_base.specs.declared.shelf.FetchError.TheVariants.{Memory};
 ghost use Rattle.diag_base.specs.Faults.{Rises};

@@ -1,3 +1,4 @@
+//! The list, the shelf and the sink in memory, on their happy paths and at their faults.
 use super::*;
 use std::test::Fail;
 

@@ -1,5 +1,6 @@
+//! A shelf over the files of the system.
 ghost use Rattle.std.specs.Prelude.{◌≤◌, ◌<◌, ◌^◌, length, IfOk};
-ghost use Rattle.diag_base.specs.Shelf.{IsShort};
+ghost use Rattle.diag_base.specs.Shelf.{Counts, IsShort};
 
 use diag_base::{Bytes, FetchError, Fetched, Shelf};
 use std::alloc::{AllocError, Global};
@@ -7,7 +8,7 @@ use std::fs;
 use std::io::Read;
 use std::rt::Files;
 
-// How many bytes one read asks for.
+/// How many bytes one read asks for.
 const CHUNK: usize = 4096;
 
 /// The files of the system. It tells no bytes; only its count of faults is known.
@@ -32,7 +33,11 @@ impl<R: Files> Shelf for FileShelf<R> {
 
     ghost faults = { λ shelf. shelf.faults };
 
-    fn fetch(&mut self, alloc: Global, name: &str, most: usize) -> Result<Fetched, FetchError> {
+    fn fetch(&mut self, alloc: Global, name: &str, most: usize) -> Result<Fetched, FetchError>
+        requires { most < 2 ^ 31 }
+        ensures short { IsShort most result }
+        ensures counts { Counts self.old.faults self.new.faults result }
+    {
         let fetched = match fs::open(&self.files, name) {
             Ok(mut file) => read_most(alloc, &mut file, most),
             Err(_) => Err(FetchError::Failed),
@@ -44,7 +49,7 @@ impl<R: Files> Shelf for FileShelf<R> {
     }
 }
 
-// Reads all bytes, or one more than `most`. Each turn takes at least one byte.
+/// Reads all bytes, or one more than `most`. Each turn takes at least one byte.
 fn read_most<F: Read>(alloc: Global, file: &mut F, most: usize) -> Result<Fetched, FetchError>
     requires { most < 2 ^ 31 }
     ensures { IsShort most result }

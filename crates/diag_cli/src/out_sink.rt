@@ -1,3 +1,6 @@
+//! A sink over a writer.
+ghost use Rattle.diag_base.specs.Sink.{Counts};
+
 use diag_base::{PutFailed, Sink};
 use std::io::Write;
 
@@ -22,7 +25,9 @@ impl<W: Write> Sink for OutSink<W> {
     ghost faults = { λ sink. sink.faults };
 
     // A write that takes nothing of a piece that isn't empty is a fault.
-    fn put(&mut self, bytes: &[u8]) -> Result<(), PutFailed> {
+    fn put(&mut self, bytes: &[u8]) -> Result<(), PutFailed>
+        ensures { Counts self.old.faults self.new.faults result }
+    {
         let mut rest = bytes;
         'writes: while !rest.is_empty() {
             match self.out.write(rest) {

@@ -1,3 +1,4 @@
+//! The list that every layer keeps its items in.
 ghost use Rattle.std.specs.Prelude.{◌≡◌, [], ◌∷◌, ◌++◌, ◌<◌, ◌==◌, length, take, slice_get, slice_set, OnOk, OnErr, IfOk, Some};
 ghost use Rattle.std.specs.Borrow.{sem, Lends};
 ghost use Rattle.std.specs.Cmp.Lexicographic.{pointwise};
@@ -10,7 +11,9 @@ use std::alloc::{AllocError, Global};
 use std::hash::{Hash, Hasher};
 use std::marker::Model;
 
-/// A list over one `Vec`.
+/// A list over one `Vec`. Two are equal where their items are, and then hash alike.
+///
+/// A type may reach itself through it: an enum with a variant that holds a `Row` of the enum.
 #[derive(Debug, Drop)]
 pub struct Row<T> {
     items: Vec<T>,
@@ -112,22 +115,7 @@ impl<T: Drop> Row<T> {
         Ok(())
     }
 
-    /// The list of one item, with room for no more.
-    pub fn of(alloc: Global, item: T) -> Result<Row<T>, AllocError>
-        ensures { IfOk result (λ row. row ≡ item ∷ []) }
-    {
-        let mut items = Vec::with_capacity(alloc, 1)?;
-        items.push(item)?;
-        Ok(Row { items })
-    }
-
-    /// Gives back the memory that no item takes.
-    pub fn shrink_to_fit(&mut self)
-        ensures { self.new ≡ self.old }
-    {
-        self.items.shrink_to_fit();
-    }
-
+    /// Keeps the first items, at most so many.
     pub fn truncate(&mut self, len: usize)
         ensures { self.new ≡ take len self.old }
     {

@@ -1,7 +1,7 @@
 pub mod HashLaws
+pub mod KeyRowLaws
 pub mod MemberLaws
-pub mod MergeLaws
 pub mod OrderLaws
 pub mod PositionsLaws
-pub mod SearchLaws
+pub mod RowLaws
 pub mod WordLaws

@@ -1,13 +1,18 @@
 -- Membership in a list of positions, as a test and as a fact.
-use Rattle.std.proofs.Common.{◌≡◌, ℕ, zero, suc, ◌<◌, ◌↔◌, Bool, true, false, List, [], ◌∷◌, length, get_or, refl, sym, ◌∙◌, arith, ⊎_elim}
+use Rattle.std.proofs.Common.{◌≡◌, ℕ, zero, suc, ◌<◌, ◌↔◌, eqb, Bool, true, false, List, [], ◌∷◌, length, get_or, refl, sym, ◌∙◌, arith, ⊎_elim}
 use Rattle.std.specs.Prelude.{All, Contains}
 use Rattle.std.specs.List.{list_all}
 use Rattle.std.proofs.lemmas.List.{get_or_default}
 use Rattle.std.proofs.lemmas.List.Elements.{All-nil, All-cons, All-head, All-tail}
-use Rattle.std.proofs.lemmas.Bool.{cases_eq, cases_Bool, false≢true, and_parts, and_from}
+use Rattle.std.proofs.lemmas.Bool.{cases_eq, cases_Bool, eq-eqb, false≢true, and_parts, and_from}
+use Rattle.std.proofs.Math.Bool.{or-true}
 use Rattle.req_keys.specs.Positions.{has}
-use Rattle.req_keys.proofs.SearchLaws.{has-get_or}
 use Rattle.req_keys.proofs.PositionsLaws.{has-other}
+
+pub has-get_or : (xs : List ℕ) (k x : ℕ) → k < length xs → get_or xs k 0 ≡ x → has xs x ≡ true
+has-get_or [] k x l e = absurd (omega arith)
+has-get_or (y ∷ ys) zero x l e = rw (eq-eqb y x e) refl
+has-get_or (y ∷ ys) (suc k) x l e = rw (has-get_or ys k x (omega arith) e) (or-true (eqb y x))
 
 pub has-from_Contains : (xs : List ℕ) (x : ℕ) → Contains xs x → has xs x ≡ true
 has-from_Contains xs x h = has-get_or xs h.0 x h.1 (get_or_default xs h.0 0 x h.1 ∙ h.2)

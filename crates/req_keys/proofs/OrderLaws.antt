@@ -169,3 +169,28 @@ equal_is_one a b e =
 pub one_is_equal : (a b : PositionSet) → a ≡ b → key_cmp a b ≡ Equal
 one_is_equal a b e =
     rw e (rw (nat_cmp-same b.n b.n refl, nat_cmp-same (length b.members) (length b.members) refl) (slice_cmp-self b.members))
+
+slice_cmp-turned : (xs ys : List ℕ) → slice_cmp nat_cmp xs ys ≡ Less → slice_cmp nat_cmp ys xs ≡ Greater
+slice_cmp-turned xs ys e = nat_list_cmp_total.antisymm ys xs ∙ ap ordering_reverse e
+
+-- where the second comes before the first, the first comes after it
+pub greater-turned : (a b : PositionSet) → key_cmp b a ≡ Less → key_cmp a b ≡ Greater
+greater-turned a b e =
+    ⊎_elim
+    (λ (less : nat_cmp b.n a.n ≡ Less). rw (nat_cmp-greater a.n b.n (less-from b.n a.n less)) refl)
+    (λ (rest : (nat_cmp b.n a.n ≡ Equal) × (ordering_then (nat_cmp (length b.members) (length a.members)) (slice_cmp nat_cmp a.members b.members) ≡ Less)).
+    rw (nat_cmp-same a.n b.n (sym (same-from b.n a.n rest.0)))
+    (⊎_elim
+    (λ (fewer : nat_cmp (length b.members) (length a.members) ≡ Less).
+    rw (nat_cmp-greater (length a.members) (length b.members) (less-from (length b.members) (length a.members) fewer)) refl)
+    (λ (more : (nat_cmp (length b.members) (length a.members) ≡ Equal) × (slice_cmp nat_cmp a.members b.members ≡ Less)).
+    rw (nat_cmp-same (length a.members) (length b.members) (sym (same-from (length b.members) (length a.members) more.0)))
+    (slice_cmp-turned a.members b.members more.1))
+    (then-less (nat_cmp (length b.members) (length a.members)) (slice_cmp nat_cmp a.members b.members) rest.1)))
+    (then-less (nat_cmp b.n a.n) (ordering_then (nat_cmp (length b.members) (length a.members)) (slice_cmp nat_cmp a.members b.members)) e)
+
+-- what n and the number of members decide, and what they leave open
+pub counts-equal : (a b : PositionSet) → Equal ≡ ordering_then (nat_cmp a.n b.n) (nat_cmp (length a.members) (length b.members)) → (a.n ≡ b.n) × (length a.members ≡ length b.members)
+counts-equal a b e =
+    let both = then-equal (nat_cmp a.n b.n) (nat_cmp (length a.members) (length b.members)) (sym e) in
+    (same-from a.n b.n both.0, same-from (length a.members) (length b.members) both.1)

@@ -1,5 +1,5 @@
 -- Ascending lists of positions, and the positions that pass a test.
-use Rattle.std.proofs.Common.{◌≡◌, ℕ, zero, suc, ◌+◌, ◌<◌, ◌≤◌, Bool, true, false, cond, eqb, ◌||◌, length, ◌-◌, List, [], ◌∷◌, ◌++◌, refl, sym, ◌∙◌, ap, ⊎_elim, arith, add-zero}
+use Rattle.std.proofs.Common.{◌≡◌, ℕ, zero, suc, ◌+◌, ◌<◌, ◌≤◌, Bool, true, false, cond, eqb, ◌||◌, length, ◌-◌, List, [], ◌∷◌, ◌++◌, refl, sym, ◌∙◌, ap, ⊎_elim, arith}
 use Rattle.std.proofs.lemmas.Bool.{cases_eq, eq-eqb, ne_eqb}
 use Rattle.std.specs.List.{range_with_len, filter}
 use Rattle.std.proofs.lemmas.List.Elements.{filter-append}
@@ -124,10 +124,6 @@ length-RiseWithin low high (x ∷ xs) h =
     let lt : low < x = h.0 in
     let le : x ≤ high = h.1 in
     omega arith
-
--- the positions of 1..=n that pass a test make a key
-pub IsKey-key_where : (n : ℕ) (test : ℕ → Bool) → n ≤ 4096 → IsKey (key_where n test)
-IsKey-key_where n test h = (h, RiseWithin-filter_range test 1 n 0 n (omega arith) (omega arith))
 
 pub RiseWithin-range : (a m low high : ℕ) → low < a → a + m ≤ high + 1 → RiseWithin low high (range_with_len a m)
 RiseWithin-range a zero low high l h = tt

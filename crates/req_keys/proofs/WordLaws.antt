@@ -43,7 +43,7 @@ bits_where-lt t (suc k) =
     let last : cond (t k) (2 ^ k) 0 ≤ 2 ^ k = cond-le (t k) (2 ^ k) in
     rw (bits_where-suc t k, pow-suc 2 k) (omega arith)
 
-cond-mul : (b : Bool) (n : ℕ) → cond b n 0 ≡ cond b 1 0 * n
+pub cond-mul : (b : Bool) (n : ℕ) → cond b n 0 ≡ cond b 1 0 * n
 cond-mul true n = omega arith
 cond-mul false n = omega arith
 
@@ -67,20 +67,6 @@ bit_at-bits_where t (suc k) i l =
     ∙ ap (λ j. bit_at (cond (t k) 1 0) j) none ∙ bit_at-cond (t k) ∙ ap (λ j. cond (t j) 1 0) (sym same))
     (cases_lt i k)
 
-pub bits_where-agree : (s t : ℕ → Bool) (k : ℕ) → ((i : ℕ) → i < k → s i ≡ t i) → bits_where s k ≡ bits_where t k
-bits_where-agree s t k h = same_from_bits_below k _ _ (bits_where-lt s k) (bits_where-lt t k)
-    (λ i l. bit_at-bits_where s k i l ∙ ap (λ b. cond b 1 0) (h i l) ∙ sym (bit_at-bits_where t k i l))
-
-bits_where-above : (t : ℕ → Bool) (k m : ℕ) → k ≤ m → ((i : ℕ) → k ≤ i → i < m → t i ≡ false) → bits_where t k ≡ bits_where t m
-bits_where-above t k m le h =
-    let below : bits_where t k < 2 ^ k = bits_where-lt t k in
-    let grows : 2 ^ k ≤ 2 ^ m = pow_mono le in
-    same_from_bits_below m _ _ (omega arith) (bits_where-lt t m)
-    (λ i l. ⊎_elim
-    (λ (lt : i < k). bit_at-bits_where t k i lt ∙ sym (bit_at-bits_where t m i l))
-    (λ (ge : k ≤ i). bit_at_above (bits_where t k) k i below ge ∙ ap (λ b. cond b 1 0) (sym (h i ge l)) ∙ sym (bit_at-bits_where t m i l))
-    (cases_lt i k))
-
 -- a bit is set where the test passes
 pub IsBitSet-from_bit_at : (n k : ℕ) (b : Bool) → bit_at n k ≡ cond b 1 0 → IsBitSet n k ↔ IsTrue b
 IsBitSet-from_bit_at n k true e =
@@ -94,77 +80,20 @@ bit_by_test zero l = refl
 bit_by_test (suc zero) l = refl
 bit_by_test (suc (suc n)) l = absurd (omega arith)
 
--- what a walk along the 64 positions from `first` on has seen: the bits below b, and the rest that is above them
-pub record SeesBits (first low n : ℕ) (positions rest : List ℕ) (word b : ℕ) : Type 0 where
-  pub so_far : word ≡ bits_where (λ i. has positions (first + i)) b
-  pub rises : RiseWithin (low + b) n rest
-  pub same : (i : ℕ) → first + b ≤ i → has rest i ≡ has positions i
-
-or_bit : (word b : ℕ) → word < 2 ^ b → b < 64 → bit_or word (1 * 2 ^ b % 2 ^ 64) ≡ word + 2 ^ b
-or_bit word b less within =
-    let fits : 1 * 2 ^ b < 2 ^ 64 = rw one-mul (pow_below b 64 within) in
-    ap (bit_or word) (mod-eq_of_lt fits) ∙ or_shifted_r 1 b word less ∙ ap (λ k. k + word) (one-mul (2 ^ b)) ∙ add_comm (2 ^ b) word
-
-pub SeesBits-set : (first low n : ℕ) (positions rest : List ℕ) (word b x : ℕ) (others : List ℕ) → low + 1 ≡ first → b < 64 → SeesBits first low n positions rest word b → rest ≡ x ∷ others → x ≡ first + b → SeesBits first low n positions others (bit_or word (1 * 2 ^ b % 2 ^ 64)) (b + 1)
-SeesBits-set first low n positions rest word b x others e within h is at_b =
-    let t : ℕ → Bool = λ i. has positions (first + i) in
-    let rises : RiseWithin (low + b) n (x ∷ others) = rw is at h.rises in
-    let here : t b ≡ true = sym (h.same (first + b) (omega arith)) ∙ ap (λ xs. has xs (first + b)) is ∙ ap (λ k. has (x ∷ others) k) (sym at_b) ∙ has-first x others in
-    let less : word < 2 ^ b = rw h.so_far (bits_where-lt t b) in
-    record {
-      so_far = or_bit word b less within ∙ ap (λ k. k + 2 ^ b) h.so_far ∙ ap (λ c. bits_where t b + cond c (2 ^ b) 0) (sym here) ∙ sym (bits_where-push t b);
-      rises = RiseWithin-lower x (low + (b + 1)) n others (omega arith) rises.2;
-      same = λ i l. sym (has-other x others i (λ eq. omega arith)) ∙ ap (λ xs. has xs i) (sym is) ∙ h.same i (omega arith);
-    }
-
-pub SeesBits-unset : (first low n : ℕ) (positions rest : List ℕ) (word b : ℕ) → low + 1 ≡ first → SeesBits first low n positions rest word b → RiseWithin (first + b) n rest → SeesBits first low n positions rest word (b + 1)
-SeesBits-unset first low n positions rest word b e h above =
-    let t : ℕ → Bool = λ i. has positions (first + i) in
-    let here : t b ≡ false = sym (h.same (first + b) (omega arith)) ∙ has-low (first + b) n rest (first + b) above (omega arith) in
-    record {
-      so_far = h.so_far ∙ sym (add-zero (bits_where t b)) ∙ ap (λ c. bits_where t b + cond c (2 ^ b) 0) (sym here) ∙ sym (bits_where-push t b);
-      rises = RiseWithin-lower (first + b) (low + (b + 1)) n rest (omega arith) above;
-      same = λ i l. h.same i (omega arith);
-    }
-
-pub SeesBits-unset_other : (first low n : ℕ) (positions rest : List ℕ) (word b x : ℕ) (others : List ℕ) → low + 1 ≡ first → SeesBits first low n positions rest word b → rest ≡ x ∷ others → (x ≡ first + b → ⊥) → SeesBits first low n positions rest word (b + 1)
-SeesBits-unset_other first low n positions rest word b x others e h is ne =
-    let rises : RiseWithin (low + b) n (x ∷ others) = rw is at h.rises in
-    let above : low + b < x = rises.0 in
-    let beyond : first + b < x = omega arith in
-    SeesBits-unset first low n positions rest word b e h (rw is (beyond, rises.1, rises.2))
-
-pub SeesBits-start : (first low n : ℕ) (positions : List ℕ) → RiseWithin low n positions → SeesBits first low n positions positions 0 0
-SeesBits-start first low n positions h = record { so_far = sym (bits_where-zero _); rises = rw add-zero h; same = λ i l. refl }
-
--- where nothing is left, no later bit is set
-pub SeesBits-end : (first low n : ℕ) (positions rest : List ℕ) (word b : ℕ) → b ≤ 64 → SeesBits first low n positions rest word b → rest ≡ [] → word ≡ bits_where (λ i. has positions (first + i)) 64
-SeesBits-end first low n positions rest word b le h is =
-    h.so_far ∙ bits_where-above (λ i. has positions (first + i)) b 64 le (λ i l u. sym (h.same (first + i) (omega arith)) ∙ ap (λ xs. has xs (first + i)) is)
-
--- what a walk along the bits below i has put into the key
-pub key_of_words-push : (words : List ℕ) (i : ℕ) → filter (λ position. bit_of words (position - 1)) (range_with_len 1 (i + 1)) ≡ filter (λ position. bit_of words (position - 1)) (range_with_len 1 i) ++ cond (bit_of words i) ((i + 1) ∷ []) []
-key_of_words-push words i =
-    let one : 1 + i ≡ i + 1 = omega arith in
-    let at_i : (1 + i) - 1 ≡ i = omega arith in
-    filter-range_push (λ position. bit_of words (position - 1)) 1 i
-    ∙ ap (λ j. filter (λ position. bit_of words (position - 1)) (range_with_len 1 i) ++ cond (bit_of words j) ((1 + i) ∷ []) []) at_i
-    ∙ ap (λ k. filter (λ position. bit_of words (position - 1)) (range_with_len 1 i) ++ cond (bit_of words i) (k ∷ []) []) one
-
 -- the test of the bit, as the program makes it
 pub bit_of-test : (words : List ℕ) (i : ℕ) → (bit_and (get_or words (i / 64) 0 / 2 ^ (i % 64)) 1 == 1) ≡ bit_of words i
 bit_of-test words i = ap (λ b. b == 1) (shr_and_one (get_or words (i / 64) 0) (i % 64))
 
-place : (k i : ℕ) → i < 64 → ((64 * k + i) / 64 ≡ k) × ((64 * k + i) % 64 ≡ i)
-place k i l =
-    let turn : 64 * k ≡ k * 64 = mul_comm 64 k in
-    (ap (λ m. (m + i) / 64) turn ∙ div-mul-add k 64 i l, ap (λ m. (m + i) % 64) turn ∙ mod-mul-add k 64 i l)
+pub place : (j b : ℕ) → b < 64 → ((64 * j + b) / 64 ≡ j) × ((64 * j + b) % 64 ≡ b)
+place j b l =
+    let turn : 64 * j ≡ j * 64 = mul_comm 64 j in
+    (ap (λ m. (m + b) / 64) turn ∙ div-mul-add j 64 b l, ap (λ m. (m + b) % 64) turn ∙ mod-mul-add j 64 b l)
 
 word_count-bound : (n k i : ℕ) → k < word_count n → i < 64 → 64 * k + i < 64 * word_count n
 word_count-bound n k i l u = omega arith
 
 -- bit i of word k of the key that a row shows
-bit-of_row : (n : ℕ) (words : List ℕ) → IsRowOver n words → (k i : ℕ) → k < word_count n → i < 64 → has (positions_where n (λ position. bit_of words (position - 1))) (64 * k + i + 1) ≡ bit_of words (64 * k + i)
+pub bit-of_row : (n : ℕ) (words : List ℕ) → IsRowOver n words → (k i : ℕ) → k < word_count n → i < 64 → has (positions_where n (λ position. bit_of words (position - 1))) (64 * k + i + 1) ≡ bit_of words (64 * k + i)
 bit-of_row n words row k i l u =
     let test : ℕ → Bool = λ position. bit_of words (position - 1) in
     let at : (64 * k + i + 1) - 1 ≡ 64 * k + i = omega arith in
@@ -176,10 +105,10 @@ bit-of_row n words row k i l u =
     ∙ sym (row.1 (64 * k + i) past inside))
     (cases_lt (64 * k + i) n)
 
-word-of_row : (n : ℕ) (words : List ℕ) → IsRowOver n words → ((k : ℕ) → k < length words → get_or words k 0 < 2 ^ 64) → (k : ℕ) → k < word_count n → get_or words k 0 ≡ word_of (key_of_words n words) k
-word-of_row n words row small k l =
+pub word-of_row : (n : ℕ) (words : List ℕ) → IsRowOver n words → (k : ℕ) → get_or words k 0 < 2 ^ 64 → k < word_count n → get_or words k 0 ≡ word_of (key_of_words n words) k
+word-of_row n words row k small l =
     let t : ℕ → Bool = λ b. has (positions_where n (λ position. bit_of words (position - 1))) (64 * k + b + 1) in
-    same_from_bits_below 64 _ _ (small k (rw row.0 l)) (bits_where-lt t 64)
+    same_from_bits_below 64 _ _ small (bits_where-lt t 64)
     (λ i u.
     sym (bit_at-bits_where t 64 i u
     ∙ ap (λ b. cond b 1 0) (bit-of_row n words row k i l u)
@@ -190,7 +119,7 @@ word-of_row n words row small k l =
 -- a row of words is that of the key that it shows
 pub words_of-key_of_words : (n : ℕ) (words : List ℕ) → IsRowOver n words → ((k : ℕ) → k < length words → get_or words k 0 < 2 ^ 64) → words_of (key_of_words n words) ≡ words
 words_of-key_of_words n words row small =
-    sym (fill_by_all (word_of (key_of_words n words)) words (word_count n) 0 row.0 (word-of_row n words row small))
+    sym (fill_by_all (word_of (key_of_words n words)) words (word_count n) 0 row.0 (λ k l. word-of_row n words row k (small k (rw row.0 l)) l))
 
 bit-by_test_back : (b : Bool) → (cond b 1 0 == 1) ≡ b
 bit-by_test_back true = refl
@@ -217,17 +146,6 @@ key_of_words-words_of n members h =
     filter-range_agree (λ position. bit_of (words_of key) (position - 1)) (has members) 1 n
     (λ p l u. bit-of_words key p l (omega arith))
     ∙ positions_where-has n 0 members h
-
-pub key_of_words-push_set : (words : List ℕ) (i : ℕ) → bit_and (get_or words (i / 64) 0 / 2 ^ (i % 64)) 1 ≡ 1 → filter (λ position. bit_of words (position - 1)) (range_with_len 1 (i + 1)) ≡ filter (λ position. bit_of words (position - 1)) (range_with_len 1 i) ++ (i + 1) ∷ []
-key_of_words-push_set words i h =
-    key_of_words-push words i
-    ∙ ap (λ b. filter (λ position. bit_of words (position - 1)) (range_with_len 1 i) ++ cond b ((i + 1) ∷ []) []) (sym (bit_of-test words i) ∙ eq-eqb _ 1 h)
-
-pub key_of_words-push_unset : (words : List ℕ) (i : ℕ) → (bit_and (get_or words (i / 64) 0 / 2 ^ (i % 64)) 1 ≡ 1 → ⊥) → filter (λ position. bit_of words (position - 1)) (range_with_len 1 (i + 1)) ≡ filter (λ position. bit_of words (position - 1)) (range_with_len 1 i)
-key_of_words-push_unset words i h =
-    key_of_words-push words i
-    ∙ ap (λ b. filter (λ position. bit_of words (position - 1)) (range_with_len 1 i) ++ cond b ((i + 1) ∷ []) []) (sym (bit_of-test words i) ∙ ne_eqb _ 1 h)
-    ∙ append-nil (filter (λ position. bit_of words (position - 1)) (range_with_len 1 i))
 
 -- one word below 2 ^ n is a row over n positions
 pub IsRowOver-one : (n word : ℕ) → 1 ≤ n → n ≤ 64 → word < 2 ^ n → IsRowOver n (word ∷ [])

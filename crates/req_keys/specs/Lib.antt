@@ -4,3 +4,4 @@ pub mod KeyEq
 pub mod Order
 pub mod Positions
 pub mod Words
+pub mod inside

@@ -4,14 +4,15 @@ ghost use Rattle.std.specs.Ordering.{as_partial_cmp};
 ghost use Rattle.std.specs.Cmp.{partial_order_from_own_ties};
 ghost use Rattle.std.specs.Cmp.Rules.{comparing};
 ghost use Rattle.std.proofs.Common.{ap, rules};
+ghost use Rattle.std.specs.List.{range_with_len};
 ghost use Rattle.req_keys.specs.Positions.{has};
 ghost use Rattle.req_keys.specs.Key.{IsKey, empty_key, full_key, key_with, union_of, difference_of, is_subset_of, is_disjoint_of};
 ghost use Rattle.req_keys.specs.KeyEq.{key_eq-same};
 ghost use Rattle.req_keys.specs.Order.{key_cmp, key_eq};
 ghost use Rattle.req_keys.specs.Words.{word_count, word_of, words_of, key_of_words, key_hash, IsRowOver};
 
+use crate::rows;
 use lists::Numbers;
-use crate::merge;
 use std::alloc::{AllocError, Global};
 use std::cmp::Ordering;
 use std::hash::{Hash, Hasher};
@@ -24,17 +25,20 @@ use std::marker::Model;
 #[derive(Drop)]
 pub struct Key {
     n: u32,
-    members: Vec<u32>,
+    /// Bit b of word j stands for the position 64 * j + b + 1.
+    words: Vec<u64>,
 }
 
 impl Model for Key {
-    ghost use Rattle.req_keys.specs.Key.{PositionSet, IsKey};
+    ghost use Rattle.req_keys.specs.Key.{PositionSet};
+    ghost use Rattle.req_keys.specs.Words.{key_of_words};
+    ghost use Rattle.req_keys.specs.inside.Rows.{IsRow};
 
     ghost Value = { PositionSet };
 
-    ghost view = { λ a. record { n = a.n; members = a.members.items } };
+    ghost view = { λ a. key_of_words a.n a.words.items };
 
-    ghost invariant = { λ a. IsKey (record { n = a.n; members = a.members.items }) };
+    ghost invariant = { λ a. IsRow a.n a.words.items };
 }
 
 impl Key {
@@ -42,21 +46,24 @@ impl Key {
         requires { n ≤ 4096 }
         ensures { IfOk result (λ key. key ≡ empty_key n) }
     {
-        Ok(Key {
-            n,
-            members: Vec::new(alloc),
-        })
+        Key::range(alloc, n, 0, 0)
     }
 
     pub fn full(alloc: Global, n: u32) -> Result<Key, AllocError>
         requires { n ≤ 4096 }
         ensures { IfOk result (λ key. key ≡ full_key n) }
     {
-        let mut members = Vec::new(alloc);
-        for i in 0..n {
-            members.push(i + 1)?;
-        }
-        Ok(Key { n, members })
+        Key::range(alloc, n, 0, n)
+    }
+
+    /// The `length` positions that come after the first `before`.
+    pub fn range(alloc: Global, n: u32, before: u32, length: u32) -> Result<Key, AllocError>
+        requires most { n ≤ 4096 }
+        requires within { before + length ≤ n }
+        ensures { IfOk result (λ key. key ≡ record { n = n; members = range_with_len (before + 1) length }) }
+    {
+        let words = rows::range(alloc, n, before, before + length)?;
+        Ok(Key { n, words })
     }
 
     /// The key that a row of words shows, as `word` gives them.
@@ -66,13 +73,8 @@ impl Key {
         ensures key { IfOk result (λ key. key ≡ key_of_words n words.now) }
         ensures words { IfOk result (λ key. words_of key ≡ words.now) }
     {
-        let mut members = Vec::new(alloc);
-        for i in 0..n {
-            if words[(i / 64) as usize] >> (i % 64) & 1 == 1 {
-                members.push(i + 1)?;
-            }
-        }
-        Ok(Key { n, members })
+        let words = Vec::from_slice(alloc, words)?;
+        Ok(Key { n, words })
     }
 
     /// The number of requirements that the key is over.
@@ -87,33 +89,37 @@ impl Key {
     pub fn len(&self) -> u32
         ensures { result ≡ length self.now.members }
     {
-        self.members.len() as u32
+        rows::count(&self.words)
     }
 
     pub fn is_empty(&self) -> bool
         ensures { result ≡ (length self.now.members == 0) }
     {
-        self.members.is_empty()
+        self.len() == 0
     }
 
     pub fn contains(&self, i: u32) -> bool
         ensures { result ≡ has self.now.members i }
     {
-        self.members.binary_search(&i).is_ok()
+        if i == 0 || self.n < i {
+            return false;
+        }
+        let place = i - 1;
+        self.words[(place / 64) as usize] >> (place % 64) & 1 == 1
     }
 
     pub fn is_subset(&self, other: &Key) -> bool
         requires { self.now.n ≡ other.now.n }
         ensures { result ≡ is_subset_of self.now other.now }
     {
-        merge::is_within(&self.members, &other.members)
+        rows::is_within(&self.words, &other.words)
     }
 
     pub fn is_disjoint(&self, other: &Key) -> bool
         requires { self.now.n ≡ other.now.n }
         ensures { result ≡ is_disjoint_of self.now other.now }
     {
-        merge::is_apart(&self.members, &other.members)
+        rows::is_apart(&self.words, &other.words)
     }
 
     /// A key with the same members and position i.
@@ -122,38 +128,38 @@ impl Key {
         requires within { i ≤ self.now.n }
         ensures { IfOk result (λ key. key ≡ key_with self.now i) }
     {
-        let members = merge::united(*self.members.allocator(), &self.members, &[i])?;
-        Ok(Key { n: self.n, members })
+        let words = rows::with_bit(*self.words.allocator(), &self.words, i - 1)?;
+        Ok(Key { n: self.n, words })
     }
 
     pub fn union(&self, other: &Key) -> Result<Key, AllocError>
         requires { self.now.n ≡ other.now.n }
         ensures { IfOk result (λ key. key ≡ union_of self.now other.now) }
     {
-        let members = merge::united(*self.members.allocator(), &self.members, &other.members)?;
-        Ok(Key { n: self.n, members })
+        let words = rows::united(*self.words.allocator(), &self.words, &other.words)?;
+        Ok(Key { n: self.n, words })
     }
 
     pub fn minus(&self, other: &Key) -> Result<Key, AllocError>
         requires { self.now.n ≡ other.now.n }
         ensures { IfOk result (λ key. key ≡ difference_of self.now other.now) }
     {
-        let members = merge::difference(*self.members.allocator(), &self.members, &other.members)?;
-        Ok(Key { n: self.n, members })
+        let words = rows::difference(*self.words.allocator(), &self.words, &other.words)?;
+        Ok(Key { n: self.n, words })
     }
 
     pub fn copy(&self) -> Result<Key, AllocError>
         ensures { IfOk result (λ key. key ≡ self.now) }
     {
-        let members = self.members.clone()?;
-        Ok(Key { n: self.n, members })
+        let words = self.words.clone()?;
+        Ok(Key { n: self.n, words })
     }
 
     /// The members, ascending.
     pub fn positions(&self) -> Result<Numbers, AllocError>
         ensures { IfOk result (λ numbers. numbers ≡ self.now.members) }
     {
-        Ok(Numbers::from_vec(self.members.clone()?))
+        rows::positions(*self.words.allocator(), &self.words)
     }
 
     /// Word j of the row of words that shows the key.
@@ -162,10 +168,7 @@ impl Key {
         ensures value { result ≡ word_of self.now j }
         ensures bits { (b : ℕ) → b < 64 → IsBitSet result b ↔ IsTrue (has self.now.members (64 * j + b + 1)) }
     {
-        let members = self.members.as_slice();
-        let first = 64 * j + 1;
-        let (Ok(start) | Err(start)) = members.binary_search(&first);
-        merge::bits_from(first, &members[start..])
+        rows::word_at(&self.words, j)
     }
 }
 
@@ -175,7 +178,7 @@ impl PartialEq for Key {
     ghost laws = { Prim.search (comparing, rules) };
 
     fn eq(&self, other: &Key) -> bool {
-        self.n == other.n && self.members == other.members
+        self.n == other.n && rows::is_same(&self.words, &other.words)
     }
 }
 
@@ -203,11 +206,11 @@ impl Ord for Key {
     ghost matches_eq = { Prim.search (comparing, rules) };
 
     fn cmp(&self, other: &Key) -> Ordering {
-        let by_count = self
-            .n
-            .cmp(&other.n)
-            .then(self.members.len().cmp(&other.members.len()));
-        by_count.then_with(|| other.members.cmp(&self.members))
+        let by_count = self.n.cmp(&other.n).then(self.len().cmp(&other.len()));
+        match by_count {
+            Ordering::Equal => rows::compare(&self.words, &other.words),
+            decided => decided,
+        }
     }
 }
 

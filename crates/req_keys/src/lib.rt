@@ -5,18 +5,18 @@
 #![tactic(auto)]
 
 mod key;
-mod laws;
 mod key_lists;
-mod merge;
+mod laws;
+mod rows;
 #[cfg(test)]
 mod tests;
 mod verdict;
 
 pub use key::Key;
+pub use key_lists::Keys;
 pub use laws::{
     disjointness_is_of_members, equal_keys_are_one, membership_is_containing,
     order_is_of_diagnoses, subset_is_of_members, words_and_keys_are_inverse,
 };
-pub use key_lists::Keys;
 pub use lists::Numbers;
 pub use verdict::{Cell, Verdict, Want};

@@ -3,8 +3,8 @@ ghost use Rattle.std.specs.Prelude.{◌≤◌};
 
 use crate::key::Key;
 use crate::key_lists::Keys;
-use lists::Numbers;
 use crate::verdict::{Cell, Verdict, Want};
+use lists::Numbers;
 use std::alloc::{AllocError, Global};
 use std::cmp::Ordering;
 use std::hash::{DefaultHasher, Hash, Hasher};

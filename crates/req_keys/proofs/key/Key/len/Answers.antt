@@ -1,8 +1,14 @@
-use Rattle.std.proofs.Common.{◌-◌, ◌≤◌, length, arith}
-use Rattle.req_keys.proofs.PositionsLaws.{length-RiseWithin}
+use Rattle.std.proofs.Common.{◌∙◌, List, ℕ, ap, length}
+use Rattle.req_keys.proofs.RowLaws.{shown_by, shown_by-members}
+use Rattle.req_keys.proofs.KeyRowLaws.{few_words}
 use Rattle.req_keys.proofs.key.Key.len.Goals as goal
 
-pub overflow_cast-result : goal.overflow_cast-result
-overflow_cast-result c =
-    let few : length c.self.inside.members.items ≤ c.self.inside.n - 0 = length-RiseWithin 0 _ _ c.self.invariant.1 in
-    omega (arith, c.self.invariant.0)
+pub count-requires : goal.count-requires
+count-requires c = rw c.deref.ensures.value (few_words c.self.inside.n c.self.inside.words.items c.self.invariant)
+
+pub returns : goal.returns
+returns c =
+    rw (← c.self.view_is)
+    (c.count.ensures
+    ∙ ap (λ (t : List ℕ). length (shown_by t (length t))) c.deref.ensures.value
+    ∙ ap length (shown_by-members c.self.inside.n c.self.inside.words.items c.self.invariant))

@@ -1,27 +1,27 @@
-use Rattle.std.proofs.Common.{◌≡◌, ℕ, List, [], ◌∷◌, ◌≤◌, ◌∙◌, ◌||◌, ap, arith}
+use Rattle.std.proofs.Common.{◌≤◌, ℕ, List, ap}
 use Rattle.req_keys.specs.Key.{PositionSet}
-use Rattle.req_keys.specs.Positions.{RiseWithin, has}
-use Rattle.req_keys.proofs.PositionsLaws.{RiseWithin-filter_range, filter-range_agree, has-one}
+use Rattle.req_keys.proofs.KeyRowLaws.{with-row, with-shown, with-within}
 use Rattle.req_keys.proofs.key.Key.with.Goals as goal
 
-first : (c : goal.In_ok-members) → RiseWithin 0 c.self.inside.n c.deref.result.now
-first c = rw c.deref.ensures.value c.self.invariant.1
-
-one : (c : goal.In_ok-members) → RiseWithin 0 c.self.inside.n (c.args.i ∷ [])
-one c =
+pub with_bit-requires : goal.with_bit-requires
+with_bit-requires c =
     let number : PositionSet → ℕ = λ key. key.n in
-    let same : c.self.inside.n ≡ c.args.self.now.n = ap number c.self.view_is in
-    let counted : 1 ≤ c.args.i = c.requires.counted in
-    let within : c.args.i ≤ c.args.self.now.n = c.requires.within in
-    (omega arith, omega arith, tt)
+    let high : c.args.i ≤ c.self.inside.n = rw (← ap number c.self.view_is) at c.requires.within in
+    rw c.deref.ensures.value (with-within c.self.inside.n c.self.inside.words.items c.self.invariant c.args.i c.requires.counted high)
+
+high_i : (c : goal.In_ok-words) → c.args.i ≤ c.self.inside.n
+high_i c =
+    let number : PositionSet → ℕ = λ key. key.n in
+    rw (← ap number c.self.view_is) at c.requires.within
 
 pub invariant_of-result : goal.invariant_of-result
 invariant_of-result c =
-    (c.self.invariant.0, rw (c.in_ok-members.ensures c.self.inside.n (first c) (one c)) (RiseWithin-filter_range _ 1 c.self.inside.n 0 c.self.inside.n (omega arith) (omega arith)))
+    with-row c.self.inside.n c.self.inside.words.items c.self.invariant c.args.i c.requires.counted (high_i c) c.in_ok-words.words.items
+    (rw c.deref.ensures.value at c.in_ok-words.ensures)
 
 pub returns : goal.returns
 returns c =
     let P : List ℕ → PositionSet = λ t. record { n = c.self.inside.n; members = t } in
     rw (← c.self.view_is)
-    (ap P (c.in_ok-members.ensures c.self.inside.n (first c) (one c)
-    ∙ rw c.deref.ensures.value (filter-range_agree _ _ 1 c.self.inside.n (λ i l u. ap (λ b. has c.self.inside.members.items i || b) (has-one c.args.i i)))))
+    (ap P (with-shown c.self.inside.n c.self.inside.words.items c.self.invariant c.args.i c.requires.counted (high_i c) c.in_ok-words.words.items
+    (rw c.deref.ensures.value at c.in_ok-words.ensures)))
