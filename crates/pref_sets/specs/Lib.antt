@@ -5,6 +5,7 @@ pub mod Greedy
 pub mod Kept
 pub mod Positions
 pub mod Preferred
+pub mod Properties
 pub mod QuickXplain
 pub mod RecursionExamples
 pub mod Trimmed
