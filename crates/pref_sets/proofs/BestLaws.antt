@@ -7,7 +7,7 @@ use Rattle.std.proofs.lemmas.Bool.{cases_eq, eq-eqb, ne_eqb}
 use Rattle.pref_sets.specs.Greedy.{IsGreedy}
 use Rattle.pref_sets.specs.Kept.{IsKept, with_item}
 use Rattle.pref_sets.specs.Trimmed.{IsTrimmed, without_item}
-use Rattle.pref_sets.specs.TrimmedBehind.{IsTrimmedBehind}
+use Rattle.pref_sets.specs.inside.TrimmedBehind.{IsTrimmedBehind}
 use Rattle.pref_sets.specs.Preferred.{IsWithin, IsDistinct}
 use Rattle.pref_sets.specs.Properties.{PassesToFewer, PassesToMore}
 use Rattle.pref_sets.proofs.TrimLaws.{IsWithin-append, IsTrimmedBehind-within, IsTrimmedBehind-keeps, without_item-middle, only}

@@ -6,7 +6,7 @@ use Rattle.std.proofs.lemmas.List.Elements.{Contains-append_left, Contains-appen
 use Rattle.pref_sets.specs.Greedy.{IsGreedy}
 use Rattle.pref_sets.specs.Kept.{IsKept, with_item}
 use Rattle.pref_sets.specs.Trimmed.{IsTrimmed}
-use Rattle.pref_sets.specs.TrimmedBehind.{IsTrimmedBehind}
+use Rattle.pref_sets.specs.inside.TrimmedBehind.{IsTrimmedBehind}
 use Rattle.pref_sets.specs.Preferred.{IsWithin, IsDistinct, IsPreferredTo, IsPreferredConflictTo}
 use Rattle.pref_sets.specs.Properties.{PassesToFewer, PassesToMore}
 use Rattle.pref_sets.proofs.TrimLaws.{IsTrimmedBehind-within, only}
