@@ -1,3 +1,4 @@
 pub mod Distinct
 pub mod Members
+pub mod RangeParts
 pub mod Ranges

@@ -3,5 +3,6 @@ pub mod Key
 pub mod KeyEq
 pub mod Order
 pub mod Positions
+pub mod Wanting
 pub mod Words
 pub mod inside
