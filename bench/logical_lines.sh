@@ -6,9 +6,11 @@ root=$(cd "$(dirname "$0")/.." && pwd)
 work=$(mktemp -d)
 trap 'rm -rf "$work"' EXIT
 mkdir -p "$work/crates/lex_bench/src"
-cp -r "$root/crates/uvl_lex" "$work/crates/uvl_lex"
-rm -rf "$work/crates/uvl_lex/out"
-printf 'uvl_lex: unicode_ident thiserror\nlex_bench: uvl_lex anyhow\n' > "$work/crates.txt"
+for name in lists uvl_lex; do
+  cp -r "$root/crates/$name" "$work/crates/$name"
+  rm -rf "$work/crates/$name/out"
+done
+printf 'lists:\nuvl_lex: lists unicode_ident thiserror\nlex_bench: uvl_lex anyhow\n' > "$work/crates.txt"
 cat > "$work/crates/lex_bench/src/main.rt" <<'PROGRAM'
 //! Times the lexer on generated texts.
 #![tactic(auto)]

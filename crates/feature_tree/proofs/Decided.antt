@@ -1,10 +1,11 @@
 -- The tests that compute agree with the definitions.
-use Rattle.std.proofs.Common.{◌≡◌, ◌∙◌, refl, ap, subst, ℕ, zero, suc, ◌+◌, Bool, true, false, not, ◌&&◌, ◌||◌, IsTrue, List, [], ◌∷◌, map, Contains, Some, length, arith}
+use Rattle.std.proofs.Common.{◌≡◌, ◌∙◌, refl, subst, ℕ, zero, suc, ◌+◌, Bool, true, false, not, ◌&&◌, ◌||◌, IsTrue, List, [], ◌∷◌, map, Contains, Some, length, arith}
 use Rattle.std.specs.List.{list_all, list_any, enumerate_from, slice_get}
 use Rattle.std.proofs.lemmas.Bool.Decides.{Decides-eqb}
 use Rattle.std.proofs.lemmas.List.Elements.{All-contains, All-weaker}
 use Rattle.std.proofs.lemmas.List.Folds.{list_any-append, Any-from_list_any}
 use Rattle.std.proofs.lemmas.List.Sums.{AllPass-from_list_all, list_all-from_AllPass}
+use Rattle.lists.proofs.Appends.{list_any-map}
 use Rattle.feature_tree.specs.declared.feature.Feature.{Feature}
 use Rattle.feature_tree.specs.Truth.{is_in, truth, Holds}
 use Rattle.feature_tree.specs.Consistent.{ConsistentIsMonotone}
@@ -70,10 +71,6 @@ product_decided model set = (
 )
 
 -- ---- consistency
-
-list_any-map : {X Y : Type 0} (f : X → Y) (p : Y → Bool) (xs : List X) → list_any p (map f xs) ≡ list_any (λ x. p (f x)) xs
-list_any-map f p [] = refl
-list_any-map f p (x ∷ xs) = ap (λ rest. p (f x) || rest) (list_any-map f p xs)
 
 or_left : (a b : Bool) → IsTrue a → IsTrue (a || b)
 or_left true b t = refl

@@ -2,6 +2,7 @@ pub mod Changes
 pub mod Completeness
 pub mod Decided
 pub mod DescentSteps
+pub mod FormulaAnswerLaws
 pub mod FormulaLaws
 pub mod Formulas
 pub mod Heights

@@ -5,6 +5,7 @@ use Rattle.std.proofs.lemmas.List.{map-append}
 use Rattle.std.proofs.lemmas.List.Elements.{All-nil, All-cons, All-head, All-tail}
 use Rattle.std.proofs.lemmas.List.Folds.{list_all-map}
 use Rattle.std.proofs.lemmas.Option.{slice_get-map, slice_get-get_or}
+use Rattle.lists.proofs.Appends.{list_any-map}
 use Rattle.feature_tree.specs.declared.formula.Formula.{Formula}
 use Rattle.feature_tree.specs.declared.formula.Formula.TheVariants.{Name, Not, All as AllOf, Any as AnyOf, Implies, Same, rolls-Name, rolls-Not, rolls-All, rolls-Any, rolls-Implies, rolls-Same}
 use Rattle.feature_tree.specs.declared.formula.Formula.TheOpen as node
@@ -15,7 +16,7 @@ use Rattle.feature_tree.specs.Folds.{fold-Name, fold-Not, fold-All, fold-Any, fo
 use Rattle.feature_tree.specs.Truth.{is_in, agree, truth}
 use Rattle.feature_tree.specs.Names.{names_of_node, names, NamesBelow}
 use Rattle.feature_tree.specs.Numbered.{number_at, numbered_node, numbered}
-use Rattle.feature_tree.proofs.Formulas.{list_any-map, truth-Name, truth-Not, truth-All, truth-Any, truth-Implies, truth-Same, All-names-Name, All-names-Not, All-names-All, All-names-Any, All-names-Implies, All-names-Same}
+use Rattle.feature_tree.proofs.Formulas.{truth-Name, truth-Not, truth-All, truth-Any, truth-Implies, truth-Same, All-names-Name, All-names-Not, All-names-All, All-names-Any, All-names-Implies, All-names-Same}
 
 -- ---- the kinds of formulas
 

@@ -12,7 +12,7 @@ use Rattle.feature_tree.specs.Truth.{is_in, truth}
 use Rattle.feature_tree.specs.Product.{EachMember, IsProduct}
 use Rattle.feature_tree.specs.Decided.{is_met, is_settled}
 use Rattle.feature_tree.specs.WellFormed.{parent_of, HasParent, IsGroupOf, IsTree}
-use Rattle.feature_tree.specs.Within.{ChildrenBelow, IsWithin}
+use Rattle.feature_tree.specs.inside.Within.{ChildrenBelow, IsWithin}
 
 -- what holds of each item by its place holds of all
 pub All-from_slice_get : {X : Type 0} (P : X → Type 0) (xs : List X) → ((i : ℕ) (x : X) → slice_get xs i ≡ Some x → P x) → All P xs

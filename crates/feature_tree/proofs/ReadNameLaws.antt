@@ -1,20 +1,25 @@
 -- Each name of a formula that was read is the number of a token that is a name.
-use Rattle.std.proofs.Common.{◌≡◌, ◌∙◌, sym, subst, append_assoc, ℕ, ◌+◌, List, [], ◌∷◌, ◌++◌, All, drop, length, map, Some}
+use Rattle.std.proofs.Common.{◌≡◌, ◌∙◌, sym, subst, append_assoc, ℕ, ◌+◌, ◌<◌, List, [], ◌∷◌, ◌++◌, All, drop, length, map, Some}
 use Rattle.std.specs.List.{slice_get, flat_map}
 use Rattle.std.proofs.lemmas.List.{append-nil}
-use Rattle.std.proofs.lemmas.List.Elements.{All-nil, All-cons, All-append}
+use Rattle.std.proofs.lemmas.List.Elements.{All-nil, All-cons, All-append, All-weaker}
+use Rattle.std.proofs.lemmas.Option.{slice_get_within}
+use Rattle.uvl_lex.specs.declared.token.Token.{Token}
 use Rattle.feature_tree.specs.declared.formula.Formula.{Formula}
 use Rattle.feature_tree.specs.declared.formula.Formula.TheVariants as formula
-use Rattle.feature_tree.specs.declared.reader.part.Reading.{Reading}
+use Rattle.feature_tree.specs.declared.reader.parsed.Parsed.{Parsed}
 use Rattle.feature_tree.specs.declared.reader.role.Level.{Level}
 use Rattle.feature_tree.specs.declared.reader.role.Level.TheVariants.{Same, Implies, Any, All as AllLevel}
 use Rattle.feature_tree.specs.declared.reader.role.Role.{Role}
 use Rattle.feature_tree.specs.declared.reader.role.Role.TheVariants.{Name, Not, Joins, Opens, Closes}
 use Rattle.feature_tree.specs.Folds.{fold-Name, fold-Not, fold-All, fold-Any, fold-Implies, fold-Same}
-use Rattle.feature_tree.specs.Grammar.{Part, paired, from_the_left, joined, Reads, AreMembers, members, negation, parentheses, name, last, and}
-use Rattle.feature_tree.specs.Names.{names_of_node, names}
+use Rattle.feature_tree.specs.Grammar.{Phrase, paired, from_the_left, joined, Reads, AreMembers, members, negation, parentheses, name, last, and}
+use Rattle.feature_tree.specs.Names.{names_of_node, names, NamesBelow}
 use Rattle.feature_tree.specs.ReadFormulas.{ReadNamesAreNames}
+use Rattle.feature_tree.specs.Refusals.{StandsFor}
+use Rattle.feature_tree.specs.Roles.{roles_of}
 use Rattle.feature_tree.proofs.Completeness.{slice_get-drop, drop-front, drop-one}
+use Rattle.feature_tree.proofs.DescentSteps.{length-roles}
 
 -- ---- what holds of each name of the parts holds of each name of the whole
 
@@ -22,7 +27,7 @@ module _ (P : ℕ → Type 0) where
   abbrev AllNames : Formula → Type 0
   AllNames formula = All P (names formula)
 
-  abbrev AllNamesOf : List Reading → Type 0
+  abbrev AllNamesOf : List Parsed → Type 0
   AllNamesOf [] = Unit {0}
   AllNamesOf (part ∷ parts) = AllNames part.formula × AllNamesOf parts
 
@@ -33,16 +38,16 @@ module _ (P : ℕ → Type 0) where
   names-Same left right one other = subst (All P) (sym (fold-Same (List ℕ) names_of_node left right)) (All-append P (names left) (names right) one other)
 
   names-from_the_left : (pair : Formula → Formula → Formula) → ((left right : Formula) → AllNames left → AllNames right → AllNames (pair left right))
-      → (first : Reading) (others : List Reading) → AllNames first.formula → AllNamesOf others → AllNames (from_the_left pair first others).formula
+      → (first : Parsed) (others : List Parsed) → AllNames first.formula → AllNamesOf others → AllNames (from_the_left pair first others).formula
   names-from_the_left pair keeps first [] here more = here
   names-from_the_left pair keeps first (second ∷ others) here (next, more) =
       names-from_the_left pair keeps (paired pair first second) others (keeps first.formula second.formula here next) more
 
-  names-parts : (parts : List Reading) → AllNamesOf parts → All P (flat_map (λ part. part) (map names (map (λ part. part.formula) parts)))
+  names-parts : (parts : List Parsed) → AllNamesOf parts → All P (flat_map (λ part. part) (map names (map (λ part. part.formula) parts)))
   names-parts [] all = All-nil P
   names-parts (part ∷ parts) (here, more) = All-append P (names part.formula) (flat_map (λ part. part) (map names (map (λ part. part.formula) parts))) here (names-parts parts more)
 
-  names-joined : (level : Level) (first : Reading) (others : List Reading) → AllNamesOf (first ∷ others) → AllNames (joined level first others).formula
+  names-joined : (level : Level) (first : Parsed) (others : List Parsed) → AllNamesOf (first ∷ others) → AllNames (joined level first others).formula
   names-joined Same first others (here, more) = names-from_the_left formula.Same names-Same first others here more
   names-joined Implies first others (here, more) = names-from_the_left formula.Implies names-Implies first others here more
   names-joined Any first [] (here, more) = here
@@ -58,8 +63,8 @@ abbrev IsNameOf : List Role → ℕ → Type 0
 IsNameOf all token = slice_get all token ≡ Some Name
 
 mutual
-  reads_names : {part : Part} {from : ℕ} {tokens : List Role} {reading : Reading} → Reads part from tokens reading
-      → (all rest : List Role) → drop from all ≡ tokens ++ rest → AllNames (IsNameOf all) reading.formula
+  reads_names : {part : Phrase} {from : ℕ} {tokens : List Role} {parsed : Parsed} → Reads part from tokens parsed
+      → (all rest : List Role) → drop from all ≡ tokens ++ rest → AllNames (IsNameOf all) parsed.formula
   reads_names (members {level = level} {first = first} {others = others} parts) all rest is =
       names-joined (IsNameOf all) level first others (members_names parts all rest is)
   reads_names (negation {from = from} {tokens = tokens} {part = inner} part) all rest is =
@@ -70,7 +75,7 @@ mutual
       subst (All (IsNameOf all)) (sym (fold-Name (List ℕ) names_of_node from))
       (All-cons (IsNameOf all) from [] (slice_get-drop from all (Name ∷ rest) is) (All-nil (IsNameOf all)))
 
-  members_names : {level : Level} {from : ℕ} {tokens : List Role} {first : Reading} {others : List Reading} → AreMembers level from tokens first others
+  members_names : {level : Level} {from : ℕ} {tokens : List Role} {first : Parsed} {others : List Parsed} → AreMembers level from tokens first others
       → (all rest : List Role) → drop from all ≡ tokens ++ rest → AllNamesOf (IsNameOf all) (first ∷ others)
   members_names (last part) all rest is = (reads_names part all rest is, tt)
   members_names (and {level = level} {from = from} {tokens = tokens} {after = after} part parts) all rest is =
@@ -81,4 +86,11 @@ mutual
       )
 
 pub read_names_are_names : ReadNamesAreNames
-read_names_are_names tokens reading reads = reads_names reads tokens [] (sym (append-nil tokens))
+read_names_are_names tokens parsed reads = reads_names reads tokens [] (sym (append-nil tokens))
+
+-- the names of a formula that stands for tokens are below their count
+pub stands_below : (tokens : List Token) (formula : Formula) → StandsFor (roles_of tokens) formula → NamesBelow (length tokens) formula
+stands_below tokens formula stands =
+    All-weaker (IsNameOf (roles_of tokens)) (λ name. name < length tokens)
+    (λ name is. subst (λ count. name < count) (length-roles tokens) (slice_get_within (roles_of tokens) name Name is))
+    (names formula) (read_names_are_names (roles_of tokens) (record { formula = formula; height = stands.height }) stands.reads)

@@ -1,15 +1,15 @@
 -- One look over the tokens says whether they have a formula.
 use Rattle.std.proofs.Common.{◌≡◌, ◌∙◌, refl, ap, sym, subst, ℕ, zero, suc, ◌+◌, ◌<◌, Bool, true, false, not, ◌||◌, List, [], ◌∷◌, ◌++◌, length, append_assoc, Option, Some, None, arith}
 use Rattle.std.proofs.lemmas.List.{append-nil}
-use Rattle.feature_tree.specs.declared.reader.part.Reading.{Reading}
+use Rattle.feature_tree.specs.declared.reader.parsed.Parsed.{Parsed}
 use Rattle.feature_tree.specs.declared.reader.role.Level.{Level}
 use Rattle.feature_tree.specs.declared.reader.role.Level.TheVariants.{Same, Implies, Any, All}
 use Rattle.feature_tree.specs.declared.reader.role.Role.{Role}
 use Rattle.feature_tree.specs.declared.reader.role.Role.TheVariants.{Name, Not, Joins, Opens, Closes, Unsupported, Other}
-use Rattle.feature_tree.specs.Grammar.{Part, chain, unary, member_of, Reads, AreMembers, members, negation, parentheses, name, last, and, HasFormula}
+use Rattle.feature_tree.specs.Grammar.{Phrase, chain, unary, member_of, Reads, AreMembers, members, negation, parentheses, name, last, and, HasFormula}
 use Rattle.feature_tree.specs.Roles.{has_unsupported}
-use Rattle.feature_tree.specs.Scan.{is_name, is_unsupported, next_place}
-use Rattle.feature_tree.specs.declared.reader.scan.Place.{Place}
+use Rattle.feature_tree.specs.inside.Scan.{is_name, is_unsupported, next_stage}
+use Rattle.feature_tree.specs.declared.reader.scan.Stage.{Stage}
 
 -- Whether the tokens may go on so and end, where an operand is wanted next or one stands before, and so many
 -- parentheses are open.
@@ -28,7 +28,7 @@ scan false depth (role ∷ after) = false
 -- ---- what has a formula passes
 
 mutual
-  pub scan_reads : {part : Part} {from : ℕ} {tokens : List Role} {reading : Reading} → Reads part from tokens reading
+  pub scan_reads : {part : Phrase} {from : ℕ} {tokens : List Role} {parsed : Parsed} → Reads part from tokens parsed
       → (depth : ℕ) (rest : List Role) → scan true depth (tokens ++ rest) ≡ scan false depth rest
   scan_reads (members parts) depth rest = scan_members parts depth rest
   scan_reads (negation part) depth rest = scan_reads part depth rest
@@ -36,7 +36,7 @@ mutual
       ap (λ all. scan true (suc depth) all) (append_assoc tokens (Closes ∷ []) rest) ∙ scan_reads part (suc depth) (Closes ∷ rest)
   scan_reads name depth rest = refl
 
-  pub scan_members : {level : Level} {from : ℕ} {tokens : List Role} {first : Reading} {others : List Reading} → AreMembers level from tokens first others
+  pub scan_members : {level : Level} {from : ℕ} {tokens : List Role} {first : Parsed} {others : List Parsed} → AreMembers level from tokens first others
       → (depth : ℕ) (rest : List Role) → scan true depth (tokens ++ rest) ≡ scan false depth rest
   scan_members (last part) depth rest = scan_reads part depth rest
   scan_members (and {level = level} {tokens = tokens} {after = after} part parts) depth rest =
@@ -45,12 +45,12 @@ mutual
       ∙ scan_members parts depth rest
 
 pub scan_formula : (tokens : List Role) → HasFormula tokens → scan true 0 tokens ≡ true
-scan_formula tokens (reading, reads) = ap (λ all. scan true 0 all) (sym (append-nil tokens)) ∙ scan_reads reads 0 []
+scan_formula tokens (parsed, reads) = ap (λ all. scan true 0 all) (sym (append-nil tokens)) ∙ scan_reads reads 0 []
 
 -- ---- the grammar without what is read
 
 mutual
-  data IsShape : Part → List Role → Type 0 where
+  data IsShape : Phrase → List Role → Type 0 where
     shapes : {level : Level} {tokens : List Role} → AreShapes level tokens → IsShape (chain level) tokens
     not_shape : {tokens : List Role} → IsShape unary tokens → IsShape unary (Not ∷ tokens)
     closed_shape : {tokens : List Role} → IsShape (chain Same) tokens → IsShape unary (Opens ∷ (tokens ++ Closes ∷ []))
@@ -61,16 +61,16 @@ mutual
     and_shape : {level : Level} {tokens after : List Role}
         → IsShape (member_of level) tokens → AreShapes level after → AreShapes level (tokens ++ Joins level ∷ after)
 
--- each shape is read from each place
+-- each shape is read from each token
 mutual
-  reads_of : {part : Part} {tokens : List Role} → IsShape part tokens → (from : ℕ) → (reading : Reading) × Reads part from tokens reading
+  reads_of : {part : Phrase} {tokens : List Role} → IsShape part tokens → (from : ℕ) → (parsed : Parsed) × Reads part from tokens parsed
   reads_of (shapes parts) from = let all = members_of parts from in (_, members all.2)
   reads_of (not_shape part) from = let inner = reads_of part (from + 1) in (_, negation inner.1)
   reads_of (closed_shape part) from = let inner = reads_of part (from + 1) in (_, parentheses inner.1)
   reads_of name_shape from = (_, name)
 
   members_of : {level : Level} {tokens : List Role} → AreShapes level tokens
-      → (from : ℕ) → (first : Reading) × (others : List Reading) × AreMembers level from tokens first others
+      → (from : ℕ) → (first : Parsed) × (others : List Parsed) × AreMembers level from tokens first others
   members_of (last_shape part) from = let one = reads_of part from in (one.0, [], last one.1)
   members_of (and_shape {tokens = tokens} part parts) from =
       let one = reads_of part from in
@@ -224,12 +224,12 @@ formula_of_scan tokens passes =
 
 -- ---- step by step
 
-abbrev pub scan_place : Option Place → List Role → Bool
-scan_place None rest = false
-scan_place (Some place) rest = scan place.wants_operand place.depth rest
+abbrev pub scan_stage : Option Stage → List Role → Bool
+scan_stage None rest = false
+scan_stage (Some stage) rest = scan stage.wants_operand stage.depth rest
 
 pub scan-next : (wants_operand : Bool) (depth : ℕ) (role : Role) (rest : List Role)
-    → scan wants_operand depth (role ∷ rest) ≡ scan_place (next_place wants_operand depth role) rest
+    → scan wants_operand depth (role ∷ rest) ≡ scan_stage (next_stage wants_operand depth role) rest
 scan-next true depth Name rest = refl
 scan-next true depth Not rest = refl
 scan-next true depth (Joins level) rest = refl

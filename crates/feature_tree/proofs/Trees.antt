@@ -12,7 +12,7 @@ use Rattle.std.proofs.lemmas.Option.{slice_get_within}
 use Rattle.feature_tree.specs.declared.group.Group.{Group}
 use Rattle.feature_tree.specs.declared.group.GroupKind.{GroupKind}
 use Rattle.feature_tree.specs.declared.feature.Feature.{Feature}
-use Rattle.feature_tree.specs.WellFormed.{parent_of, groups_of, children_of, HasParent, HasBounds, EachFeature, IsGroupOf, NamesDiffer, IsTree}
+use Rattle.feature_tree.specs.WellFormed.{parent_of, groups_of, children_of, HasParent, HasBounds, EachFeature, IsGroupOf, feature_names, NamesDiffer, IsTree}
 use Rattle.feature_tree.specs.Growing.{changed_at, changed_last, new_feature, with_one_more, with_last_group, with_last_child, with_group, with_child, IsNewName}
 use Rattle.feature_tree.proofs.Changes.{slice_get-push_before, slice_get-push_last, slice_get-push_cases, length-changed_at, slice_get-changed_at_other, All-changed_last}
 
@@ -154,6 +154,13 @@ map-name-push (x ∷ xs) new = ap (λ rest. x.name ∷ rest) (map-name-push xs n
 -- the features with this one changed, and then a child of it that has no group yet
 abbrev pub grown : (Feature → Feature) → List Feature → ℕ → List ℕ → List Feature
 grown change features parent name = changed_at change features parent ++ new_feature name (Some parent) ∷ []
+
+-- the names of the features before, and then the child's
+pub names-grown : (change : Feature → Feature) → ((feature : Feature) → (change feature).name ≡ feature.name) → (features : List Feature) (parent : ℕ) (name : List ℕ)
+    → feature_names (grown change features parent name) ≡ feature_names features ++ name ∷ []
+names-grown change keeps features parent name =
+    map-name-push (changed_at change features parent) (new_feature name (Some parent))
+    ∙ ap (λ before. before ++ name ∷ []) (map-name-changed_at change keeps features parent)
 
 module _ (change : Feature → Feature) (features : List Feature) (parent : ℕ) (name : List ℕ) (within : parent < length features)
     (keeps_parent : (feature : Feature) → (change feature).parent ≡ feature.parent) where

@@ -3,7 +3,7 @@
 use Rattle.std.specs.Prelude.{◌≡◌, ℕ, true, false, List, [], ◌∷◌, refl}
 use Rattle.feature_tree.specs.declared.formula.Formula.{Formula}
 use Rattle.feature_tree.specs.declared.formula.Formula.TheVariants as formula
-use Rattle.feature_tree.specs.declared.reader.part.Reading.{Reading}
+use Rattle.feature_tree.specs.declared.reader.parsed.Parsed.{Parsed}
 use Rattle.feature_tree.specs.declared.reader.role.Level.TheVariants.{Same, Implies, Any, All}
 use Rattle.feature_tree.specs.declared.reader.role.Role.{Role}
 use Rattle.feature_tree.specs.declared.reader.role.Role.TheVariants.{Name, Not, Joins, Opens, Closes, Unsupported, Other}
@@ -15,19 +15,19 @@ use Rattle.feature_tree.specs.Roles.{role_of, has_unsupported}
 
 -- ---- a part as a chain of one member
 
-abbrev as_all : {from : ℕ} {tokens : List Role} {part : Reading} → Reads unary from tokens part → Reads (chain All) from tokens part
+abbrev as_all : {from : ℕ} {tokens : List Role} {part : Parsed} → Reads unary from tokens part → Reads (chain All) from tokens part
 as_all reads = members {level = All} (last reads)
 
-abbrev as_any : {from : ℕ} {tokens : List Role} {part : Reading} → Reads unary from tokens part → Reads (chain Any) from tokens part
+abbrev as_any : {from : ℕ} {tokens : List Role} {part : Parsed} → Reads unary from tokens part → Reads (chain Any) from tokens part
 as_any reads = members {level = Any} (last (as_all reads))
 
-abbrev as_implies : {from : ℕ} {tokens : List Role} {part : Reading} → Reads unary from tokens part → Reads (chain Implies) from tokens part
+abbrev as_implies : {from : ℕ} {tokens : List Role} {part : Parsed} → Reads unary from tokens part → Reads (chain Implies) from tokens part
 as_implies reads = members {level = Implies} (last (as_any reads))
 
-abbrev as_same : {from : ℕ} {tokens : List Role} {part : Reading} → Reads unary from tokens part → Reads (chain Same) from tokens part
+abbrev as_same : {from : ℕ} {tokens : List Role} {part : Parsed} → Reads unary from tokens part → Reads (chain Same) from tokens part
 as_same reads = members {level = Same} (last (as_implies reads))
 
-abbrev read : Formula → ℕ → Reading
+abbrev read : Formula → ℕ → Parsed
 read formula height = record { formula = formula; height = height }
 
 -- `A`

@@ -1,8 +1,9 @@
 pub mod Consistent
 pub mod Decided
-pub mod Descent
 pub mod Example
 pub mod Folds
+pub mod FormulaAnswer
+pub mod FormulaAnswerExamples
 pub mod FeatureModel
 pub mod Grammar
 pub mod GrammarExamples
@@ -13,7 +14,6 @@ pub mod Product
 pub mod ReadFormulas
 pub mod Refusals
 pub mod Roles
-pub mod Scan
 pub mod Truth
 pub mod WellFormed
-pub mod Within
+pub mod inside

@@ -5,7 +5,7 @@ use Rattle.feature_tree.specs.declared.formula.Formula.{Formula}
 use Rattle.feature_tree.specs.declared.formula.Formula.TheOpen as node
 use Rattle.feature_tree.specs.declared.formula.Formula.TheOpen.{Formula-F}
 use Rattle.feature_tree.specs.declared.formula.Formula.TheFolds.{fold-Formula}
-use Rattle.feature_tree.specs.declared.reader.part.Reading.{Reading}
+use Rattle.feature_tree.specs.declared.reader.parsed.Parsed.{Parsed}
 use Rattle.feature_tree.specs.declared.reader.role.Role.{Role}
 use Rattle.feature_tree.specs.declared.reader.role.Role.TheVariants.{Name}
 use Rattle.feature_tree.specs.Grammar.{IsFormula}
@@ -25,9 +25,9 @@ abbrev pub IsFull : Formula → Type 0
 IsFull formula = IsTrue (fold-Formula Bool full_node formula)
 
 abbrev pub ReadFormulasAreFull : Type 0
-ReadFormulasAreFull = (tokens : List Role) (reading : Reading) → IsFormula tokens reading → IsFull reading.formula
+ReadFormulasAreFull = (tokens : List Role) (parsed : Parsed) → IsFormula tokens parsed → IsFull parsed.formula
 
 -- each name in a formula that was read is the number of a token that is a name
 abbrev pub ReadNamesAreNames : Type 0
 ReadNamesAreNames =
-    (tokens : List Role) (reading : Reading) → IsFormula tokens reading → All (λ token. slice_get tokens token ≡ Some Name) (names reading.formula)
+    (tokens : List Role) (parsed : Parsed) → IsFormula tokens parsed → All (λ token. slice_get tokens token ≡ Some Name) (names parsed.formula)

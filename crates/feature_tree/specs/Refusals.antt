@@ -3,7 +3,7 @@ use Rattle.std.specs.Prelude.{◌≡◌, ℕ, ◌<◌, ◌≤◌, IsTrue, IsFals
 use Rattle.feature_tree.specs.declared.formula.Formula.{Formula}
 use Rattle.feature_tree.specs.declared.reader.error.FormulaError.{FormulaError}
 use Rattle.feature_tree.specs.declared.reader.error.FormulaError.TheVariants.{Unsupported, BadFormula, TooDeep, Memory}
-use Rattle.feature_tree.specs.declared.reader.part.Reading.{Reading}
+use Rattle.feature_tree.specs.declared.reader.parsed.Parsed.{Parsed}
 use Rattle.feature_tree.specs.declared.reader.role.Role.{Role}
 use Rattle.feature_tree.specs.Grammar.{IsFormula}
 use Rattle.feature_tree.specs.Roles.{has_unsupported}
@@ -22,14 +22,14 @@ pub record StandsFor (tokens : List Role) (formula : Formula) : Type 0 where
 -- no token is unsupported, and nothing is read of them
 pub record IsBad (tokens : List Role) : Type 0 where
   pub supported : IsFalse (has_unsupported tokens)
-  pub none : (reading : Reading) → IsFormula tokens reading → ⊥
+  pub none : (parsed : Parsed) → IsFormula tokens parsed → ⊥
 
 -- no token is unsupported, and what is read of them is too high
 pub record IsTooDeep (tokens : List Role) : Type 0 where
   pub supported : IsFalse (has_unsupported tokens)
-  pub reading : Reading
-  pub reads : IsFormula tokens reading
-  pub high : most < reading.height
+  pub parsed : Parsed
+  pub reads : IsFormula tokens parsed
+  pub high : most < parsed.height
 
 -- the tokens are refused for this reason; want of memory may come for any
 abbrev pub IsRefused : List Role → FormulaError → Type 0
@@ -46,8 +46,8 @@ IsAnswer tokens (Err reason) = IsRefused tokens reason
 -- LAWS
 
 -- A list of tokens has at most one formula, with one height.
-abbrev pub OneReading : Type 0
-OneReading = (tokens : List Role) (one other : Reading) → IsFormula tokens one → IsFormula tokens other → one ≡ other
+abbrev pub OneParse : Type 0
+OneParse = (tokens : List Role) (one other : Parsed) → IsFormula tokens one → IsFormula tokens other → one ≡ other
 
 abbrev pub IsMemory : Result Formula FormulaError → Type 0
 IsMemory answer = answer ≡ Err Memory

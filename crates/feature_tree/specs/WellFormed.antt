@@ -47,9 +47,13 @@ pub record IsGroupOf (features : List Feature) (i : ℕ) (group : Group) : Type 
   -- it has bounds as its kind wants
   pub bounds : HasBounds group.kind group.low group.high
 
+-- the names of the features, in their order
+abbrev pub feature_names : List Feature → List (List ℕ)
+feature_names features = map (λ feature. feature.name) features
+
 -- no two features have the same name
 abbrev pub NamesDiffer : List Feature → Type 0
-NamesDiffer features = AllPairs (λ name other. name ≢ other) (map (λ feature. feature.name) features)
+NamesDiffer features = AllPairs (λ name other. name ≢ other) (feature_names features)
 
 -- the features of a model: a tree of groups
 pub record IsTree (features : List Feature) : Type 0 where

@@ -1,11 +1,12 @@
+//! Features.
 ghost use Rattle.std.specs.Prelude.{◌≡◌, IsTrue, ◌↔◌, length, All};
 ghost use Rattle.feature_tree.specs.Product.{EachMember};
 ghost use Rattle.feature_tree.specs.Decided.{is_settled as settled};
-ghost use Rattle.feature_tree.specs.Within.{IsWithin};
+ghost use Rattle.feature_tree.specs.inside.Within.{IsWithin};
 
 use crate::group::{Groups, are_met};
-use lists::Row;
 use crate::text::Text;
+use lists::Row;
 
 /// A feature, whose number is its place in the list of features.
 #[derive(Debug, Drop)]

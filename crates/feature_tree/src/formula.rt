@@ -1,3 +1,4 @@
+//! Formulas, and whether one is true in a set of features.
 ghost use Rattle.std.specs.Prelude.{◌≡◌, length, All};
 ghost use Rattle.std.specs.List.{list_all, list_any};
 ghost use Rattle.feature_tree.specs.Truth.{truth};
@@ -57,6 +58,7 @@ pub fn all_hold(formulas: &[Formula], in_set: &[bool]) -> bool
     true
 }
 
+/// Whether some formula is true in the set.
 #[cycle(holds)]
 fn any_holds(formulas: &[Formula], in_set: &[bool]) -> bool
     requires { All (NamesBelow (length in_set.now)) formulas.now }

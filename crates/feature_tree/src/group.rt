@@ -1,9 +1,10 @@
+//! Groups of features.
 ghost use Rattle.std.specs.Prelude.{◌≡◌, ◌<◌, nat_le, true, length, All};
 ghost use Rattle.std.specs.List.{list_all};
 ghost use Rattle.std.specs.Option.{option_map_or};
 ghost use Rattle.feature_tree.specs.Product.{allows as allows_count, count_in as count_of};
 ghost use Rattle.feature_tree.specs.Decided.{is_met as meets};
-ghost use Rattle.feature_tree.specs.Within.{ChildrenBelow};
+ghost use Rattle.feature_tree.specs.inside.Within.{ChildrenBelow};
 
 use lists::{Numbers, Row};
 
@@ -38,6 +39,7 @@ pub struct Group {
 pub type Groups = Row<Group>;
 
 impl Group {
+    /// Whether so many of its children may be there.
     fn allows(&self, count: usize) -> bool
         ensures { result ≡ allows_count self.now.kind self.now.low self.now.high (length self.now.children) count }
     {
@@ -59,6 +61,7 @@ impl Group {
     }
 }
 
+/// Whether the count is no higher than the bound, if there is one.
 fn is_at_most(count: usize, high: Option<u32>) -> bool
     ensures { result ≡ option_map_or (λ most. nat_le count most) high true }
 {
@@ -68,6 +71,7 @@ fn is_at_most(count: usize, high: Option<u32>) -> bool
     }
 }
 
+/// How many of the children are in the set.
 fn count_in(children: &[u32], in_set: &[bool]) -> usize
     requires { All (λ child. child < length in_set.now) children.now }
     ensures { result ≡ count_of in_set.now children.now }

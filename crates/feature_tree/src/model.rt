@@ -1,3 +1,4 @@
+//! Feature models.
 ghost use Rattle.std.specs.Prelude.{◌≡◌, IsTrue, ◌↔◌, length};
 ghost use Rattle.feature_tree.specs.Product.{IsProduct};
 ghost use Rattle.feature_tree.specs.Decided.{is_product};

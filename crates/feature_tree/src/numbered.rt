@@ -1,3 +1,4 @@
+//! Formulas whose names get other numbers.
 ghost use Rattle.std.specs.Prelude.{◌≡◌, length, map, All, IfOk};
 ghost use Rattle.feature_tree.specs.Names.{NamesBelow};
 ghost use Rattle.feature_tree.specs.Numbered.{numbered, NumberedNames, NumberedTruth};
@@ -32,6 +33,7 @@ impl Formula {
     }
 }
 
+/// One part with other numbers.
 #[cycle(numbered)]
 fn boxed(alloc: Global, formula: &Formula, of: &[u32]) -> Result<Boxed<Formula>, AllocError>
     requires { NamesBelow (length of.now) formula.now }
@@ -40,6 +42,7 @@ fn boxed(alloc: Global, formula: &Formula, of: &[u32]) -> Result<Boxed<Formula>,
     Boxed::new(alloc, formula.numbered(alloc, of)?)
 }
 
+/// Each formula with other numbers.
 #[cycle(numbered)]
 fn all_numbered(alloc: Global, formulas: &[Formula], of: &[u32]) -> Result<Formulas, AllocError>
     requires { All (NamesBelow (length of.now)) formulas.now }

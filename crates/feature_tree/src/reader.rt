@@ -1,11 +1,13 @@
 //! From tokens to a formula.
-ghost use Rattle.std.specs.Prelude.{◌^◌, ◌<◌, length, IfOk, IfErr};
+ghost use Rattle.std.specs.Prelude.{◌≡◌, ◌^◌, ◌<◌, length, IfOk, IfErr, Ok};
 ghost use Rattle.feature_tree.specs.Roles.{roles_of};
+ghost use Rattle.feature_tree.specs.FormulaAnswer.{formula_answer, IsRefusal};
+ghost use Rattle.feature_tree.specs.Names.{NamesBelow};
 ghost use Rattle.feature_tree.specs.Refusals.{StandsFor, IsRefused};
 
 mod descent;
 mod error;
-mod part;
+mod parsed;
 mod role;
 mod scan;
 #[cfg(test)]
@@ -14,7 +16,8 @@ mod tests;
 use crate::formula::Formula;
 use descent::read_chain;
 pub use error::FormulaError;
-use role::Level;
+pub use parsed::Parsed;
+pub use role::{Level, Role};
 use scan::{has_unsupported, is_formula};
 use std::alloc::Global;
 use uvl_lex::Token;
@@ -27,6 +30,9 @@ pub fn formula_of(alloc: Global, tokens: &[Token]) -> Result<Formula, FormulaErr
     requires { length tokens.now < 2 ^ 32 }
     ensures formula { IfOk result (StandsFor (roles_of tokens.now)) }
     ensures refusal { IfErr result (IsRefused (roles_of tokens.now)) }
+    ensures answer { IfOk result (λ formula. formula_answer tokens.now ≡ Ok formula) }
+    ensures refused { IfErr result (λ reason. IsRefusal reason (formula_answer tokens.now)) }
+    ensures names { IfOk result (NamesBelow (length tokens.now)) }
 {
     if has_unsupported(tokens) {
         return Err(FormulaError::Unsupported);
@@ -35,5 +41,5 @@ pub fn formula_of(alloc: Global, tokens: &[Token]) -> Result<Formula, FormulaErr
         return Err(FormulaError::BadFormula);
     }
     let found = read_chain(alloc, tokens, 0, Level::Same, MOST)?;
-    Ok(found.reading.into_formula())
+    Ok(found.parsed.into_formula())
 }

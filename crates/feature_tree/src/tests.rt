@@ -1,3 +1,4 @@
+//! A model grown by hand, and each call once.
 use super::*;
 use std::test::Fail;
 

@@ -1,3 +1,4 @@
+//! Names of features.
 ghost use Rattle.std.specs.Prelude.{◌≡◌, [], ◌∷◌, ◌++◌, ◌<◌, length, slice_get, OnOk, OnErr, IfOk, Some};
 ghost use Rattle.std.specs.Prelude.{nat_eq};
 ghost use Rattle.std.specs.Cmp.Lexicographic.{pointwise};
@@ -42,18 +43,21 @@ impl Text {
         })
     }
 
+    /// The bytes.
     pub fn as_slice(&self) -> &[u8]
         ensures { result.now ≡ self.now }
     {
         self.bytes.as_slice()
     }
 
+    /// How many bytes there are.
     pub fn len(&self) -> usize
         ensures { result ≡ length self.now }
     {
         self.bytes.len()
     }
 
+    /// The byte at this index.
     pub fn get(&self, i: usize) -> &u8
         requires { i < length self.now }
         ensures { slice_get self.now i ≡ Some result.now }
@@ -61,6 +65,7 @@ impl Text {
         &self.bytes[i]
     }
 
+    /// One more byte, the last.
     pub fn push(&mut self, item: u8) -> Result<(), AllocError>
         ensures ok { OnOk result (self.new ≡ self.old ++ item ∷ []) }
         ensures err { OnErr result (self.new ≡ self.old) }

@@ -1,14 +1,15 @@
+//! A tree of features that grows.
 ghost use Rattle.std.specs.Prelude.{◌≡◌, [], ◌∷◌, ◌++◌, ◌<◌, ◌≤◌, length, All, Some, OnOk, OnErr, IfOk};
 ghost use Rattle.feature_tree.specs.Growing.{changed_at, changed_last, new_feature, with_one_more, with_last_group, with_root, with_group, with_child, IsNewName};
 ghost use Rattle.feature_tree.specs.Names.{NamesBelow};
-ghost use Rattle.feature_tree.specs.WellFormed.{groups_of, HasBounds};
+ghost use Rattle.feature_tree.specs.WellFormed.{feature_names, groups_of, HasBounds};
 
 use crate::feature::{Feature, Features};
 use crate::formula::Formulas;
 use crate::group::{Group, GroupKind, Groups};
 use crate::model::Model;
-use lists::Row;
 use crate::text::Text;
+use lists::Row;
 use std::alloc::{AllocError, Global};
 
 /// The features of a model while it is read: a root to which children come one by one, each with the next number.
@@ -52,6 +53,7 @@ impl Tree {
         self.features.len()
     }
 
+    /// The features, by number.
     pub fn as_slice(&self) -> &[Feature]
         ensures { result.now ≡ self.now }
     {
@@ -73,6 +75,7 @@ impl Tree {
         requires bounds { HasBounds kind low high }
         requires new { IsNewName self.old name }
         ensures ok { OnOk result (self.new ≡ with_group self.old parent kind low high name) }
+        ensures names { OnOk result (feature_names self.new ≡ feature_names self.old ++ name ∷ []) }
         ensures number { IfOk result (λ child. child ≡ length self.old) }
         ensures err { OnErr result (self.new ≡ self.old) }
     {
@@ -94,6 +97,7 @@ impl Tree {
         requires room { length self.old < 65535 }
         requires new { IsNewName self.old name }
         ensures ok { OnOk result (self.new ≡ with_child self.old parent name) }
+        ensures names { OnOk result (feature_names self.new ≡ feature_names self.old ++ name ∷ []) }
         ensures number { IfOk result (λ child. child ≡ length self.old) }
         ensures err { OnErr result (self.new ≡ self.old) }
     {
@@ -113,6 +117,7 @@ impl Tree {
     }
 }
 
+/// One more child in the last group.
 fn push_last(groups: &mut Groups, child: u32) -> Result<(), AllocError>
     requires { 0 < length groups.old }
     ensures ok { OnOk result (groups.new ≡ changed_last (with_one_more child) groups.old) }
@@ -124,6 +129,7 @@ fn push_last(groups: &mut Groups, child: u32) -> Result<(), AllocError>
     Ok(())
 }
 
+/// One more feature, which is in no group yet.
 fn push_feature(
     features: &mut Features,
     alloc: Global,
@@ -140,6 +146,7 @@ fn push_feature(
     })
 }
 
+/// One more feature, in the last group of its parent.
 fn push_child(
     features: &mut Features,
     alloc: Global,
@@ -162,6 +169,7 @@ fn push_child(
     Ok(count as u32)
 }
 
+/// One more feature, in a new group of its parent.
 fn push_group(
     features: &mut Features,
     alloc: Global,

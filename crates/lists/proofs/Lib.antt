@@ -1,3 +1,4 @@
+pub mod Appends
 pub mod Distinct
 pub mod Members
 pub mod RangeParts

@@ -11,10 +11,10 @@ use Rattle.uvl_lex.specs.declared.token.Keyword.{Keyword as Word}
 use Rattle.uvl_lex.specs.declared.token.Mark.{Mark as Sign}
 use Rattle.uvl_lex.specs.Laws.{least_len, least_piece, Cover}
 use Rattle.uvl_lex.specs.Places.{after, along, unmarked, beginning, byte_order_mark}
-use Rattle.uvl_lex.specs.Pieces.{Part, len_if, name_len, quote, apostrophe, kind_of_word, holds_name, inside_len, is_closed, mark_piece, longest, candidates, first_piece, parts_after, parts}
+use Rattle.uvl_lex.specs.Pieces.{PlacedPiece, len_if, name_len, quote, apostrophe, kind_of_word, holds_name, inside_len, is_closed, mark_piece, longest, candidates, first_piece, pieces_after, pieces_from}
 use Rattle.uvl_lex.specs.Reading.{pieces_of}
 use Rattle.uvl_lex.specs.Words.{keyword_of, marks}
-use Rattle.uvl_lex.proofs.PartLemmas.{first_piece_some, parts_first}
+use Rattle.uvl_lex.proofs.CutLemmas.{first_piece_some, pieces_first}
 
 -- PLACES
 
@@ -109,8 +109,8 @@ bytes_cut cs n =
     ap (λ (xs : List ℕ). length (encode_utf8_all xs)) (sym (take-append-drop n cs))
     ∙ (ap length (encodes-append (take n cs) (drop n cs)) ∙ length-append (encode_utf8_all (take n cs)) (encode_utf8_all (drop n cs)))
 
-cover_some : (m : ℕ) (at : Place) (cs : List ℕ) → length cs ≤ m → Cover at.offset (parts at cs) (at.offset + length (encode_utf8_all cs))
-unfolding parts_after
+cover_some : (m : ℕ) (at : Place) (cs : List ℕ) → length cs ≤ m → Cover at.offset (pieces_from at cs) (at.offset + length (encode_utf8_all cs))
+unfolding pieces_after
 cover_some m at [] h = omega arith
 cover_some zero at (c ∷ cs) h = absurd (omega arith)
 cover_some (suc m) at (c ∷ cs) h =
@@ -124,8 +124,8 @@ cover_some (suc m) at (c ∷ cs) h =
     let positive = first_piece_some text in
     let shorter : length (drop n text) ≤ m = omega (arith, length-drop n text) in
     let total : next.offset + length (encode_utf8_all (drop n text)) ≡ at.offset + length (encode_utf8_all text) = omega (arith, bytes_cut text n) in
-    subst (λ (ps : List Part). Cover at.offset ps (at.offset + length (encode_utf8_all text))) (sym (parts_first at text some))
-    (refl, omega arith, subst (λ (b : ℕ). Cover next.offset (parts next (drop n text)) b) total (cover_some m next (drop n text) shorter))
+    subst (λ (ps : List PlacedPiece). Cover at.offset ps (at.offset + length (encode_utf8_all text))) (sym (pieces_first at text some))
+    (refl, omega arith, subst (λ (b : ℕ). Cover next.offset (pieces_from next (drop n text)) b) total (cover_some m next (drop n text) shorter))
 
 unmarked_bytes : (cs : List ℕ) → (beginning cs).offset + length (encode_utf8_all (unmarked cs)) ≡ length (encode_utf8_all cs)
 unmarked_bytes [] = omega arith

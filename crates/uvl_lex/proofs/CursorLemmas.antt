@@ -9,7 +9,7 @@ use Rattle.std.proofs.lemmas.List.{drop-drop, take-append-drop, take_at}
 use Rattle.std.proofs.lemmas.Str.{IsUtf8-from_is_utf8, chars_past_char, length-encode, len_utf8_bounds, chars-nil, encodes-chars, encodes-append, length-le-encodes}
 use Rattle.uvl_lex.specs.declared.cursor.Cursor.{Cursor}
 use Rattle.uvl_lex.specs.declared.place.Place.{Place}
-use Rattle.uvl_lex.specs.Cursors.{left, StepsOver, GoesOn}
+use Rattle.uvl_lex.specs.inside.Cursors.{left, StepsOver, GoesOn}
 use Rattle.uvl_lex.specs.Places.{after, along, tab, line_feed, carriage_return}
 
 -- PLACES

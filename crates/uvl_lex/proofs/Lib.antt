@@ -2,7 +2,7 @@ pub mod CoverLemmas
 pub mod CursorLemmas
 pub mod LineLemmas
 pub mod MarkLemmas
-pub mod PartLemmas
+pub mod CutLemmas
 pub mod PieceLemmas
 pub mod ReadLemmas
 pub mod ScanLemmas

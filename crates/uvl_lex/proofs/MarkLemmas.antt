@@ -8,7 +8,7 @@ use Rattle.uvl_lex.specs.declared.piece.Piece.{Piece}
 use Rattle.uvl_lex.specs.declared.piece.Piece.TheVariants.{Lexeme, Fault}
 use Rattle.uvl_lex.specs.declared.token.Mark.{Mark as Sign}
 use Rattle.uvl_lex.specs.declared.token.TokenKind.TheVariants.{Mark}
-use Rattle.uvl_lex.specs.Classes.{mark_of}
+use Rattle.uvl_lex.specs.inside.Classes.{mark_of}
 use Rattle.uvl_lex.specs.Words.{marks}
 use Rattle.uvl_lex.specs.Pieces.{first, starts_name, mark_piece, longest}
 

@@ -11,8 +11,8 @@ use Rattle.uvl_lex.specs.declared.piece.Piece.TheVariants.{Blank, LineEnd, Comme
 use Rattle.uvl_lex.specs.declared.token.Mark.{Mark as Sign}
 use Rattle.uvl_lex.specs.declared.token.Mark.TheVariants.{Slash}
 use Rattle.uvl_lex.specs.declared.token.TokenKind.TheVariants.{Quoted, Text, Number, Mark}
-use Rattle.uvl_lex.specs.Classes.{mark_of, BeginsNoOther}
-use Rattle.uvl_lex.specs.Cursors.{left, GoesOn, IsPieceAt}
+use Rattle.uvl_lex.specs.inside.Classes.{mark_of, BeginsNoOther}
+use Rattle.uvl_lex.specs.inside.Cursors.{left, GoesOn, IsPieceAt}
 use Rattle.uvl_lex.specs.Places.{line_feed}
 use Rattle.uvl_lex.specs.Pieces.{longest, no_marks, mark_piece, first, is_blank, starts_name, quote, apostrophe, longer, first_piece, name_kind, name_len, number_len, quoted_len, double_text_len, single_text_len, line_comment_len, block_comment_len, open_comment_len, digits}
 use Rattle.uvl_lex.specs.Words.{marks}
@@ -122,8 +122,8 @@ both c = is_ascii_digit c && starts_name c
 digit_starts_no_name : (c : ℕ) → is_ascii_digit c ≡ true → starts_name c ≡ false
 unfolding both unicode_ident
 digit_starts_no_name c h =
-    let parts = and_parts (nat_le 48 c) (nat_le c 57) h in
-    let most : c ≤ 57 = leb-true c 57 parts.1 in
+    let pieces_from = and_parts (nat_le 48 c) (nat_le c 57) h in
+    let most : c ≤ 57 = leb-true c 57 pieces_from.1 in
     let neither : (is_ascii_digit c && starts_name c) ≡ false = agree_below_at both (λ _. false) 58 c refl (omega arith) in
     rw h at neither
 

@@ -11,9 +11,9 @@ use Rattle.uvl_lex.specs.declared.reader.Reader.{Reader}
 use Rattle.uvl_lex.specs.declared.token.Line.{Line}
 use Rattle.uvl_lex.specs.declared.token.Token.{Token}
 use Rattle.uvl_lex.specs.declared.token.TokenKind.{TokenKind}
-use Rattle.uvl_lex.specs.Pieces.{Part}
-use Rattle.uvl_lex.specs.Progress.{answer, ended, grown, lines_with}
-use Rattle.uvl_lex.specs.Reading.{Answer, Run, run_of, at_line_end, on_ok, token_before, line_end_before, all_lines, tokens_of, brackets_after}
+use Rattle.uvl_lex.specs.Pieces.{PlacedPiece}
+use Rattle.uvl_lex.specs.inside.Progress.{lines_after, ended, grown, lines_with}
+use Rattle.uvl_lex.specs.Reading.{OrFault, Run, run_of, at_line_end, on_ok, token_before, line_end_before, all_lines, tokens_of, brackets_after}
 
 append_nil : {A : Type 0} (xs : List A) → xs ++ [] ≡ xs
 append_nil [] = refl
@@ -21,33 +21,33 @@ append_nil (x ∷ xs) = ap (λ ys. x ∷ ys) (append_nil xs)
 
 -- BLANKS AND COMMENTS
 
-pub past_blank : (r : Reader) (from upto : Place) (ps : List Part) → answer r (record { what = Blank; from = from; upto = upto } ∷ ps) ≡ answer r ps
+pub past_blank : (r : Reader) (from upto : Place) (ps : List PlacedPiece) → lines_after r (record { what = Blank; from = from; upto = upto } ∷ ps) ≡ lines_after r ps
 unfolding run_of
 past_blank r from upto ps = refl
 
-pub past_comment : (r : Reader) (from upto : Place) (ps : List Part) → answer r (record { what = Comment; from = from; upto = upto } ∷ ps) ≡ answer r ps
+pub past_comment : (r : Reader) (from upto : Place) (ps : List PlacedPiece) → lines_after r (record { what = Comment; from = from; upto = upto } ∷ ps) ≡ lines_after r ps
 unfolding run_of
 past_comment r from upto ps = refl
 
-pub at_fault : (r : Reader) (from upto : Place) (reason : LexReason) (ps : List Part)
-    → answer r (record { what = Fault reason; from = from; upto = upto } ∷ ps) ≡ Err (Refused from.line reason)
+pub at_fault : (r : Reader) (from upto : Place) (reason : LexReason) (ps : List PlacedPiece)
+    → lines_after r (record { what = Fault reason; from = from; upto = upto } ∷ ps) ≡ Err (Refused from.line reason)
 unfolding run_of
 at_fault r from upto reason ps = refl
 
-pub past_quiet : (r : Reader) (what : Piece) (from upto : Place) (ps : List Part) → (what ≡ Blank) ⊎ (what ≡ Comment)
-    → answer r (record { what = what; from = from; upto = upto } ∷ ps) ≡ answer r ps
+pub past_quiet : (r : Reader) (what : Piece) (from upto : Place) (ps : List PlacedPiece) → (what ≡ Blank) ⊎ (what ≡ Comment)
+    → lines_after r (record { what = what; from = from; upto = upto } ∷ ps) ≡ lines_after r ps
 past_quiet r what from upto ps (inl e) = rw e (past_blank r from upto ps)
 past_quiet r what from upto ps (inr e) = rw e (past_comment r from upto ps)
 
 -- LINE ENDS
 
-inner_end : (brackets : List Bracket) (a : Answer Run) → (brackets ≡ [] → ⊥) → at_line_end brackets a ≡ a
+inner_end : (brackets : List Bracket) (a : OrFault Run) → (brackets ≡ [] → ⊥) → at_line_end brackets a ≡ a
 inner_end [] a n = absurd (n refl)
 inner_end (b ∷ bs) a n = refl
 
 -- a line end inside brackets
-pub past_inner_end : (r : Reader) (from upto : Place) (ps : List Part) → (r.open_brackets ≡ [] → ⊥)
-    → answer r (record { what = LineEnd; from = from; upto = upto } ∷ ps) ≡ answer r ps
+pub past_inner_end : (r : Reader) (from upto : Place) (ps : List PlacedPiece) → (r.open_brackets ≡ [] → ⊥)
+    → lines_after r (record { what = LineEnd; from = from; upto = upto } ∷ ps) ≡ lines_after r ps
 unfolding run_of
 past_inner_end r from upto ps n = ap (on_ok (lines_with r.lines r.current)) (inner_end r.open_brackets (run_of r.open_brackets ps) n)
 
@@ -56,48 +56,48 @@ lines_end done None run = refl
 lines_end done (Some line) run =
     rw (append_nil line.tokens) (sym (append_assoc done (line ∷ []) (all_lines run)))
 
-answers_end : (done : List Line) (current : Option Line) (a : Answer Run)
+answers_end : (done : List Line) (current : Option Line) (a : OrFault Run)
     → on_ok (lines_with done current) (on_ok line_end_before a) ≡ on_ok (lines_with (ended done current) None) a
 answers_end done current (Ok run) = ap Ok (lines_end done current run)
 answers_end done current (Err e) = refl
 
-pub past_line_end : (r s : Reader) (from upto : Place) (ps : List Part) → r.open_brackets ≡ [] → s.lines ≡ ended r.lines r.current → s.current ≡ None
-    → s.open_brackets ≡ r.open_brackets → answer r (record { what = LineEnd; from = from; upto = upto } ∷ ps) ≡ answer s ps
+pub past_line_end : (r s : Reader) (from upto : Place) (ps : List PlacedPiece) → r.open_brackets ≡ [] → s.lines ≡ ended r.lines r.current → s.current ≡ None
+    → s.open_brackets ≡ r.open_brackets → lines_after r (record { what = LineEnd; from = from; upto = upto } ∷ ps) ≡ lines_after s ps
 unfolding run_of
 past_line_end r s from upto ps e lines current brackets =
     rw (lines, current, brackets, e) (answers_end r.lines r.current (run_of [] ps))
 
 -- TOKENS
 
-lines_grow : (done : List Line) (current : Option Line) (p : Part) (token : Token) (run : Run) → token.line ≡ p.from.line
+lines_grow : (done : List Line) (current : Option Line) (p : PlacedPiece) (token : Token) (run : Run) → token.line ≡ p.from.line
     → lines_with done current (token_before p token run) ≡ lines_with done (Some (grown current token p.from.column)) run
 lines_grow done None p token run e = rw e refl
 lines_grow done (Some line) p token run e = rw (append_assoc line.tokens (token ∷ []) (tokens_of run.0)) refl
 
-answers_grow : (done : List Line) (current : Option Line) (p : Part) (token : Token) (a : Answer Run) → token.line ≡ p.from.line
+answers_grow : (done : List Line) (current : Option Line) (p : PlacedPiece) (token : Token) (a : OrFault Run) → token.line ≡ p.from.line
     → on_ok (lines_with done current) (on_ok (token_before p token) a) ≡ on_ok (lines_with done (Some (grown current token p.from.column))) a
 answers_grow done current p token (Ok run) e = ap Ok (lines_grow done current p token run e)
 answers_grow done current p token (Err x) e = refl
 
-pub past_token : (r s : Reader) (kind : TokenKind) (from upto : Place) (ps : List Part)
+pub past_token : (r s : Reader) (kind : TokenKind) (from upto : Place) (ps : List PlacedPiece)
     → brackets_after (record { kind = kind; start = from.offset; end = upto.offset; line = from.line }) r.open_brackets ≡ Some s.open_brackets
     → s.lines ≡ r.lines → s.current ≡ Some (grown r.current (record { kind = kind; start = from.offset; end = upto.offset; line = from.line }) from.column)
-    → answer r (record { what = Lexeme kind; from = from; upto = upto } ∷ ps) ≡ answer s ps
+    → lines_after r (record { what = Lexeme kind; from = from; upto = upto } ∷ ps) ≡ lines_after s ps
 unfolding run_of
 past_token r s kind from upto ps e lines current =
     rw (e, lines, current)
     (answers_grow r.lines r.current (record { what = Lexeme kind; from = from; upto = upto })
     (record { kind = kind; start = from.offset; end = upto.offset; line = from.line }) (run_of s.open_brackets ps) refl)
 
-pub at_misfit : (r : Reader) (kind : TokenKind) (from upto : Place) (ps : List Part)
+pub at_misfit : (r : Reader) (kind : TokenKind) (from upto : Place) (ps : List PlacedPiece)
     → brackets_after (record { kind = kind; start = from.offset; end = upto.offset; line = from.line }) r.open_brackets ≡ None
-    → answer r (record { what = Lexeme kind; from = from; upto = upto } ∷ ps) ≡ Err (Refused from.line BadToken)
+    → lines_after r (record { what = Lexeme kind; from = from; upto = upto } ∷ ps) ≡ Err (Refused from.line BadToken)
 unfolding run_of
 at_misfit r kind from upto ps e = rw e refl
 
 -- THE END
 
-pub at_open_end : (r : Reader) (b : Bracket) (bs : List Bracket) → r.open_brackets ≡ b ∷ bs → answer r [] ≡ Err (Refused b.line OpenBracket)
+pub at_open_end : (r : Reader) (b : Bracket) (bs : List Bracket) → r.open_brackets ≡ b ∷ bs → lines_after r [] ≡ Err (Refused b.line OpenBracket)
 unfolding run_of
 at_open_end r b bs e = rw e refl
 
@@ -105,6 +105,6 @@ last : (done : List Line) (current : Option Line) → on_ok (lines_with done cur
 last done None = ap Ok (append_nil done)
 last done (Some line) = rw (append_nil line.tokens) refl
 
-pub at_closed_end : (r : Reader) → r.open_brackets ≡ [] → answer r [] ≡ Ok (ended r.lines r.current)
+pub at_closed_end : (r : Reader) → r.open_brackets ≡ [] → lines_after r [] ≡ Ok (ended r.lines r.current)
 unfolding run_of
 at_closed_end r e = rw e (last r.lines r.current)

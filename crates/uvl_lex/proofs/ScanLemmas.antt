@@ -1,4 +1,4 @@
--- What the parts of the reading of one piece make of the characters.
+-- What each step of the reading of one piece makes of the characters.
 use Rattle.std.proofs.Common.{◌≡◌, ℕ, suc, ◌+◌, ◌<◌, ◌==◌, nat_lt, Bool, true, false, ◌&&◌, ◌||◌, ◌⊎◌, not, List, [], ◌∷◌, get_or, take, drop, Option, Some, None, add-zero, zero-add, refl, sym, ◌∙◌, ap, subst, inl, inr, arith}
 use Rattle.std.specs.Char.{is_ascii_digit}
 use Rattle.std.specs.List.{prefix_len}
@@ -10,7 +10,7 @@ use Rattle.uvl_lex.specs.declared.error.LexReason.TheVariants.{BadToken, OpenCom
 use Rattle.uvl_lex.specs.declared.piece.Piece.TheVariants.{Blank, LineEnd, Comment, Lexeme, Fault}
 use Rattle.uvl_lex.specs.declared.token.Mark.TheVariants.{Slash}
 use Rattle.uvl_lex.specs.declared.token.TokenKind.TheVariants.{Quoted, Text, Number, Mark}
-use Rattle.uvl_lex.specs.Classes.{is_plain}
+use Rattle.uvl_lex.specs.inside.Classes.{is_plain}
 use Rattle.std.proofs.lemmas.List.{get_or-drop, drop-drop}
 use Rattle.std.proofs.lemmas.Grind.{get_or_after_one}
 use Rattle.uvl_lex.specs.Pieces.{first, is_in_name, single_text_len, quoted_len, double_text_len, is_blank, is_in_line, starts_name, quote, apostrophe, dot, longer, first_piece, name_kind, name_len, number_len, inside_len, is_closed, is_inside, has_dot, holds_name, closed_after, digits, fraction_len, sign_len, signed_len, exponent_len, tail_len}
@@ -113,8 +113,8 @@ after_front p c cs h = let e : prefix_len p (c ∷ cs) ≡ suc (prefix_len p cs)
 -- what a plain character is, and what another one between the quotes is
 plain_inside : (c : ℕ) → is_plain c ≡ true → (is_inside quote c ≡ true) × ((c == dot) ≡ false)
 plain_inside c h =
-    let parts = and_parts (not (c == dot)) (is_inside quote c) h in
-    (parts.1, elim (cases_Bool (c == dot)) [ inl y ↦ let n : not (c == dot) ≡ false = rw y refl in cc | inr n ↦ n ])
+    let pieces_from = and_parts (not (c == dot)) (is_inside quote c) h in
+    (pieces_from.1, elim (cases_Bool (c == dot)) [ inl y ↦ let n : not (c == dot) ≡ false = rw y refl in cc | inr n ↦ n ])
 
 dot_inside : (c : ℕ) → is_plain c ≡ false → is_inside quote c ≡ true → (c == dot) ≡ true
 dot_inside c n i =

@@ -8,13 +8,13 @@ use Rattle.std.proofs.lemmas.Str.{IsUtf8-from_is_utf8, is_utf8-from_IsUtf8}
 use Rattle.uvl_lex.specs.declared.cursor.Cursor.{Cursor}
 use Rattle.uvl_lex.specs.declared.error.LexError.TheVariants.{Refused}
 use Rattle.uvl_lex.specs.declared.error.LexReason.TheVariants.{NotUtf8}
-use Rattle.uvl_lex.specs.Cursors.{left}
-use Rattle.uvl_lex.specs.Pieces.{parts}
+use Rattle.uvl_lex.specs.inside.Cursors.{left}
+use Rattle.uvl_lex.specs.Pieces.{pieces_from}
 use Rattle.uvl_lex.specs.Places.{unmarked, beginning}
 use Rattle.uvl_lex.specs.Reading.{reading, run_of, on_ok, all_lines}
 
 pub reading_text : (bytes text : List ℕ) (k : Cursor) → text ≡ bytes → IsUtf8 bytes → left k ≡ unmarked (chars text) → k.place ≡ beginning (chars text)
-    → reading bytes ≡ on_ok all_lines (run_of [] (parts k.place (left k)))
+    → reading bytes ≡ on_ok all_lines (run_of [] (pieces_from k.place (left k)))
 unfolding reading
 reading_text bytes text k e u l p =
     let yes = is_utf8-from_IsUtf8 bytes u in

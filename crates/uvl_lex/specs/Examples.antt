@@ -12,13 +12,13 @@ use Rattle.uvl_lex.specs.declared.token.Mark.TheVariants.{Assign, AtMost, CloseC
 use Rattle.uvl_lex.specs.declared.token.Token.{Token}
 use Rattle.uvl_lex.specs.declared.token.TokenKind.{TokenKind}
 use Rattle.uvl_lex.specs.declared.token.TokenKind.TheVariants.{Name, Quoted, Text, Number, Keyword, Mark}
-use Rattle.uvl_lex.specs.Pieces.{first_piece, parts_after}
-use Rattle.uvl_lex.specs.Reading.{Answer, reading, run_of}
+use Rattle.uvl_lex.specs.Pieces.{first_piece, pieces_after}
+use Rattle.uvl_lex.specs.Reading.{OrFault, reading, run_of}
 use Rattle.uvl_lex.specs.Words.{keyword_of}
 
 -- `unfolding computing` lets `refl` compute a reading
 unfoldable computing : Unit {0}
-unfolding reading is_utf8 chars utf8_valid_len encode run_of parts_after first_piece keyword_of unicode_ident
+unfolding reading is_utf8 chars utf8_valid_len encode run_of pieces_after first_piece keyword_of unicode_ident
 computing = tt
 
 abbrev line : ℕ → ℕ → List Token → Line
@@ -27,7 +27,7 @@ line number indent tokens = record { number = number; indent = indent; tokens = 
 abbrev token : TokenKind → ℕ → ℕ → ℕ → Token
 token kind start end line = record { kind = kind; start = start; end = end; line = line }
 
-abbrev lines : List Line → Answer (List Line)
+abbrev lines : List Line → OrFault (List Line)
 lines ls = Ok ls
 
 -- no bytes, no lines

@@ -10,9 +10,9 @@ use Rattle.uvl_lex.specs.declared.token.Line.{Line}
 use Rattle.uvl_lex.specs.declared.token.Token.{Token}
 use Rattle.uvl_lex.specs.declared.token.TokenKind.{TokenKind}
 use Rattle.uvl_lex.specs.declared.token.TokenKind.TheVariants.{Name, Quoted, Text, Number, Keyword, Mark}
-use Rattle.uvl_lex.specs.Pieces.{Part}
+use Rattle.uvl_lex.specs.Pieces.{PlacedPiece}
 use Rattle.uvl_lex.specs.Places.{beginning}
-use Rattle.uvl_lex.specs.Reading.{Answer, reading, pieces_of, token_at, brackets_after}
+use Rattle.uvl_lex.specs.Reading.{OrFault, reading, pieces_of, token_at, brackets_after}
 use Rattle.uvl_lex.specs.Text.{IsSpanOf}
 
 -- a token has at least one byte, and one between quotes two
@@ -32,7 +32,7 @@ least_piece (Lexeme kind) = least_len kind
 least_piece (Fault reason) = 1
 
 -- The pieces go from one byte to another: each begins where the one before ends, and none is empty.
-abbrev pub Cover : ℕ → List Part → ℕ → Type 0
+abbrev pub Cover : ℕ → List PlacedPiece → ℕ → Type 0
 Cover from [] upto = from ≡ upto
 Cover from (p ∷ ps) upto = (p.from.offset ≡ from) × (p.from.offset + least_piece p.what ≤ p.upto.offset) × Cover p.upto.offset ps upto
 
@@ -41,14 +41,14 @@ abbrev pub PiecesCover : Type 0
 PiecesCover = (bytes : List ℕ) → IsTrue (is_utf8 bytes) → Cover (beginning (chars bytes)).offset (pieces_of (chars bytes)) (length bytes)
 
 -- the tokens among the pieces
-abbrev pub tokens_if : Piece → Part → List Token → List Token
+abbrev pub tokens_if : Piece → PlacedPiece → List Token → List Token
 tokens_if Blank p ts = ts
 tokens_if LineEnd p ts = ts
 tokens_if Comment p ts = ts
 tokens_if (Lexeme kind) p ts = token_at kind p ∷ ts
 tokens_if (Fault reason) p ts = ts
 
-abbrev pub tokens_among : List Part → List Token
+abbrev pub tokens_among : List PlacedPiece → List Token
 tokens_among [] = []
 tokens_among (p ∷ ps) = tokens_if p.what p (tokens_among ps)
 
@@ -66,14 +66,20 @@ abbrev pub brackets_along : List Token → List Bracket → Option (List Bracket
 brackets_along [] open_now = Some open_now
 brackets_along (t ∷ ts) open_now = option_and_then (brackets_along ts) (brackets_after t open_now)
 
--- the line has a token, and its brackets are closed in order
-pub record IsLine (line : Line) : Type 0 where
+-- what holds of each line of the text with these bytes
+pub record IsLine (bytes : List ℕ) (line : Line) : Type 0 where
+  -- it has a token,
   pub some : 0 < length line.tokens
+  -- its brackets are closed in order,
   pub balanced : brackets_along line.tokens [] ≡ Some []
+  -- the span of each of its tokens lies in the bytes,
+  pub spans : All (IsSpanOf bytes) line.tokens
+  -- and it has no more tokens than the text has bytes
+  pub few : length line.tokens ≤ length bytes
 
 -- what a reader of the lines may rely on
 pub record AreLines (bytes : List ℕ) (lines : List Line) : Type 0 where
-  pub each : All IsLine lines
+  pub each : All (IsLine bytes) lines
   pub tokens : all_tokens lines ≡ tokens_among (pieces_of (chars bytes))
   pub ascend : Ascend 0 (all_tokens lines) (length bytes)
   pub spans : All (IsSpanOf bytes) (all_tokens lines)
@@ -83,4 +89,4 @@ ReadingsAreLines = (bytes : List ℕ) (lines : List Line) → reading bytes ≡ 
 
 -- a text has one reading at most
 abbrev pub OneReading : Type 0
-OneReading = (bytes : List ℕ) (one other : Answer (List Line)) → reading bytes ≡ one → reading bytes ≡ other → one ≡ other
+OneReading = (bytes : List ℕ) (one other : OrFault (List Line)) → reading bytes ≡ one → reading bytes ≡ other → one ≡ other

@@ -1,10 +1,8 @@
-pub mod Classes
-pub mod Cursors
 pub mod Examples
 pub mod Laws
 pub mod Pieces
 pub mod Places
-pub mod Progress
 pub mod Reading
 pub mod Text
 pub mod Words
+pub mod inside

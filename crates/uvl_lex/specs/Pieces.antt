@@ -192,20 +192,20 @@ first_piece cs = longest (candidates cs)
 -- THE CUT OF A TEXT
 
 -- a piece, with where it begins and ends
-pub record Part : Type 0 where
+pub record PlacedPiece : Type 0 where
   pub what : Piece
   pub from : Place
   pub upto : Place
 
-abbrev pub first_part : Place → List ℕ → Part
-first_part at cs = let piece = first_piece cs in record { what = piece.0; from = at; upto = along at (take piece.1 cs) }
+abbrev pub first_placed : Place → List ℕ → PlacedPiece
+first_placed at cs = let piece = first_piece cs in record { what = piece.0; from = at; upto = along at (take piece.1 cs) }
 
 -- The pieces of a text that begins at a place: the longest one at the start, then those of what follows it.
 -- So many characters of the piece before are still to be passed.
-unfoldable pub parts_after : ℕ → Place → List ℕ → List Part
-parts_after left at [] = []
-parts_after zero at (c ∷ cs) = first_part at (c ∷ cs) ∷ parts_after ((first_piece (c ∷ cs)).1 - 1) (after at c) cs
-parts_after (suc left) at (c ∷ cs) = parts_after left (after at c) cs
+unfoldable pub pieces_after : ℕ → Place → List ℕ → List PlacedPiece
+pieces_after left at [] = []
+pieces_after zero at (c ∷ cs) = first_placed at (c ∷ cs) ∷ pieces_after ((first_piece (c ∷ cs)).1 - 1) (after at c) cs
+pieces_after (suc left) at (c ∷ cs) = pieces_after left (after at c) cs
 
-abbrev pub parts : Place → List ℕ → List Part
-parts at cs = parts_after 0 at cs
+abbrev pub pieces_from : Place → List ℕ → List PlacedPiece
+pieces_from at cs = pieces_after 0 at cs

@@ -16,7 +16,7 @@ use Rattle.uvl_lex.specs.declared.token.Token.{Token}
 use Rattle.uvl_lex.specs.declared.token.TokenKind.{TokenKind}
 use Rattle.uvl_lex.specs.declared.token.TokenKind.TheVariants.{Mark}
 use Rattle.uvl_lex.specs.Places.{line_feed, unmarked, beginning}
-use Rattle.uvl_lex.specs.Pieces.{Part, parts}
+use Rattle.uvl_lex.specs.Pieces.{PlacedPiece, pieces_from}
 
 -- BRACKETS
 
@@ -59,7 +59,7 @@ brackets_after token open_now = opened_or_closed (opens token.kind) token open_n
 
 -- LINES
 
-abbrev pub token_at : TokenKind → Part → Token
+abbrev pub token_at : TokenKind → PlacedPiece → Token
 token_at kind part = record { kind = kind; start = part.from.offset; end = part.upto.offset; line = part.from.line }
 
 -- A run of lines: first what stands before the next line end, if anything, and then the lines below it.
@@ -81,35 +81,36 @@ tokens_of None = []
 tokens_of (Some line) = line.tokens
 
 -- a token before a run: the line begins with it
-abbrev pub token_before : Part → Token → Run → Run
+abbrev pub token_before : PlacedPiece → Token → Run → Run
 token_before part token run =
     (Some (record { number = part.from.line; indent = part.from.column; tokens = token ∷ tokens_of run.0 }), run.1)
 
 -- THE READING
 
-abbrev pub Answer : Type 0 → Type 0
-Answer A = Result A LexError
+-- what is asked for, or the first fault of the text
+abbrev pub OrFault : Type 0 → Type 0
+OrFault A = Result A LexError
 
-abbrev pub on_ok : {A B : Type 0} → (A → B) → Answer A → Answer B
-on_ok f answer = result_map_both f (λ e. e) answer
+abbrev pub on_ok : {A B : Type 0} → (A → B) → OrFault A → OrFault B
+on_ok f read = result_map_both f (λ e. e) read
 
 -- at the end a bracket may still be open
-abbrev pub at_end : List Bracket → Answer Run
+abbrev pub at_end : List Bracket → OrFault Run
 at_end [] = Ok (None, [])
 at_end (bracket ∷ outer) = Err (Refused bracket.line OpenBracket)
 
 -- a line end outside all brackets ends a line
-abbrev pub at_line_end : List Bracket → Answer Run → Answer Run
-at_line_end [] answer = on_ok line_end_before answer
-at_line_end (bracket ∷ outer) answer = answer
+abbrev pub at_line_end : List Bracket → OrFault Run → OrFault Run
+at_line_end [] rest = on_ok line_end_before rest
+at_line_end (bracket ∷ outer) rest = rest
 
 -- a token goes before what follows it, unless it closes a bracket that it may not close
-abbrev pub at_token : Part → Token → Option (List Bracket) → (List Bracket → Answer Run) → Answer Run
-at_token p token None answer = Err (Refused p.from.line BadToken)
-at_token p token (Some now) answer = on_ok (token_before p token) (answer now)
+abbrev pub at_token : PlacedPiece → Token → Option (List Bracket) → (List Bracket → OrFault Run) → OrFault Run
+at_token p token None rest = Err (Refused p.from.line BadToken)
+at_token p token (Some now) rest = on_ok (token_before p token) (rest now)
 
 -- The run that the pieces make where these brackets are open before them, or the first fault among them.
-unfoldable pub run_of : List Bracket → List Part → Answer Run
+unfoldable pub run_of : List Bracket → List PlacedPiece → OrFault Run
 run_of open_now [] = at_end open_now
 run_of open_now (p ∷ ps) =
     elim p.what [
@@ -121,20 +122,20 @@ run_of open_now (p ∷ ps) =
     ]
 
 -- the pieces of a text of characters, after its byte order mark
-abbrev pub pieces_of : List ℕ → List Part
-pieces_of cs = parts (beginning cs) (unmarked cs)
+abbrev pub pieces_of : List ℕ → List PlacedPiece
+pieces_of cs = pieces_from (beginning cs) (unmarked cs)
 
 -- the lines of a text of characters
-abbrev pub lines_of : List ℕ → Answer (List Line)
+abbrev pub lines_of : List ℕ → OrFault (List Line)
 lines_of cs = on_ok all_lines (run_of [] (pieces_of cs))
 
 -- Bytes that are not UTF-8 are refused before anything else, at the line of the first wrong byte.
-unfoldable pub reading : List ℕ → Answer (List Line)
+unfoldable pub reading : List ℕ → OrFault (List Line)
 reading bytes =
     if is_utf8 bytes then lines_of (chars bytes)
     else Err (Refused (1 + count_by (λ b. b == line_feed) (take (utf8_valid_len bytes) bytes)) NotUtf8)
 
 -- the error is the refusal of this reading, unless it is want of memory
-abbrev pub IsRefusal : LexError → Answer (List Line) → Type 0
-IsRefusal Memory answer = Unit {0}
-IsRefusal (Refused line reason) answer = answer ≡ Err (Refused line reason)
+abbrev pub IsRefusal : LexError → OrFault (List Line) → Type 0
+IsRefusal Memory read = Unit {0}
+IsRefusal (Refused line reason) read = read ≡ Err (Refused line reason)

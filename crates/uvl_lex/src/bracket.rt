@@ -6,8 +6,9 @@ use crate::token::{Mark, Token, TokenKind};
 use std::alloc::{AllocError, Global};
 use std::marker::Model;
 
+/// The shape of a bracket.
 #[derive(Clone, Copy, Debug, PartialEq, Eq)]
-pub(crate) enum Shape {
+pub enum Shape {
     Round,
     Square,
     Curly,
@@ -15,7 +16,7 @@ pub(crate) enum Shape {
 
 impl Shape {
     /// The shape of the bracket that the token opens.
-    pub fn opened_by(kind: TokenKind) -> Option<Shape>
+    pub(crate) fn opened_by(kind: TokenKind) -> Option<Shape>
         ensures { result ≡ opens kind }
     {
         match kind {
@@ -27,7 +28,7 @@ impl Shape {
     }
 
     /// The shape of the bracket that the token closes.
-    pub fn closed_by(kind: TokenKind) -> Option<Shape>
+    pub(crate) fn closed_by(kind: TokenKind) -> Option<Shape>
         ensures { result ≡ closes kind }
     {
         match kind {
@@ -38,7 +39,8 @@ impl Shape {
         }
     }
 
-    pub fn is_same(self, other: Shape) -> bool
+    /// Whether the two are of one shape.
+    pub(crate) fn is_same(self, other: Shape) -> bool
         ensures { result ≡ is_same_shape self other }
     {
         matches!(
@@ -52,7 +54,7 @@ impl Shape {
 
 /// A bracket that has been opened on a physical line.
 #[derive(Clone, Copy, Debug, PartialEq, Eq)]
-pub(crate) struct Bracket {
+pub struct Bracket {
     pub shape: Shape,
     pub line: u32,
 }
@@ -73,6 +75,7 @@ impl Model for Brackets {
 }
 
 impl Brackets {
+    /// No bracket.
     pub fn new(alloc: Global) -> Self
         ensures { result ≡ [] }
     {
@@ -81,12 +84,14 @@ impl Brackets {
         }
     }
 
+    /// Whether no bracket is open.
     pub fn is_empty(&self) -> bool
         ensures { IsTrue result ↔ (self.now ≡ []) }
     {
         self.outer_first.is_empty()
     }
 
+    /// Puts a bracket inside the others.
     pub fn push(&mut self, bracket: Bracket) -> Result<(), AllocError>
         ensures { IfOk result (λ _. self.new ≡ bracket ∷ self.old) }
     {

@@ -1,6 +1,6 @@
 //! Classes of characters.
 ghost use Rattle.std.specs.Prelude.{◌≡◌};
-ghost use Rattle.uvl_lex.specs.Classes.{in_class};
+ghost use Rattle.uvl_lex.specs.inside.Classes.{in_class};
 ghost use Rattle.uvl_lex.specs.Pieces.{starts_name, is_in_name};
 
 /// A class of characters.
@@ -8,7 +8,9 @@ ghost use Rattle.uvl_lex.specs.Pieces.{starts_name, is_in_name};
 pub(crate) enum Class {
     /// All but the line feed.
     InLine,
+    /// What may follow the first character of a name.
     InName,
+    /// 0 to 9.
     Digit,
     /// What may stand before the closing quote.
     Inside(char),
@@ -17,6 +19,7 @@ pub(crate) enum Class {
 }
 
 impl Class {
+    /// Whether the character belongs to the class.
     #[inline]
     pub fn contains(self, c: char) -> bool
         ensures { result ≡ in_class self c }
@@ -31,12 +34,14 @@ impl Class {
     }
 }
 
+/// Whether a name may begin with the character.
 pub(crate) fn starts_name(c: char) -> bool
     ensures { result ≡ starts_name c }
 {
     unicode_ident::is_xid_start(c) || c == '_'
 }
 
+/// Whether the character may stand in a name after the first.
 fn is_in_name(c: char) -> bool
     ensures { result ≡ is_in_name c }
 {

@@ -20,8 +20,8 @@ impl<'a> Cursor<'a> {
     ghost use Rattle.std.specs.Str.{chars};
     ghost use Rattle.uvl_lex.specs.Places.{after, beginning, unmarked};
     ghost use Rattle.uvl_lex.specs.Pieces.{first};
-    ghost use Rattle.uvl_lex.specs.Cursors.{left, GoesOn, StepsOver};
-    ghost use Rattle.uvl_lex.specs.Classes.{in_class};
+    ghost use Rattle.uvl_lex.specs.inside.Cursors.{left, GoesOn, StepsOver};
+    ghost use Rattle.uvl_lex.specs.inside.Classes.{in_class};
 
     /// At the beginning of a text, after its byte order mark if it has one.
     pub fn new(text: &'a str) -> Cursor<'a>
@@ -50,12 +50,14 @@ impl<'a> Cursor<'a> {
         }
     }
 
+    /// The place of the next character.
     pub fn place(self) -> Place
         ensures { result ≡ self.entry.place }
     {
         self.place
     }
 
+    /// Whether no character is left.
     pub fn is_at_end(self) -> bool
         ensures { IsTrue result ↔ (left self.entry ≡ []) }
     {

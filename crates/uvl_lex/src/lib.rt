@@ -5,7 +5,9 @@
 //! are those of its first token. `text_of` gives a token's text.
 //!
 //! A reader above may rely on this: no line is empty, brackets are balanced within each line, a
-//! token's kind settles its form, and the spans of the tokens ascend through the file.
+//! token's kind settles its form, the spans of the tokens lie in the bytes and ascend through the
+//! file, and no line has more tokens than the file has bytes. `Bracket`, `Piece`, `Place` and
+//! `Shape` are public because the definition of the lines, in `specs/`, names them.
 #![tactic(auto)]
 
 mod bracket;
@@ -22,6 +24,9 @@ mod tests;
 mod token;
 mod word;
 
+pub use bracket::{Bracket, Shape};
 pub use error::{LexError, LexReason};
 pub use lines::logical_lines;
+pub use piece::Piece;
+pub use place::Place;
 pub use token::{Keyword, Line, Lines, Mark, Token, TokenKind, Tokens, text_of};

@@ -2,8 +2,8 @@
 ghost use Rattle.std.specs.Prelude.{◌≡◌, ◌≤◌, ◌==◌, [], length, IfOk, IfErr, count_by};
 ghost use Rattle.uvl_lex.specs.Reading.{reading, run_of, on_ok, all_lines, IsRefusal};
 ghost use Rattle.uvl_lex.specs.Laws.{AreLines};
-ghost use Rattle.uvl_lex.specs.Pieces.{parts};
-ghost use Rattle.uvl_lex.specs.Cursors.{left};
+ghost use Rattle.uvl_lex.specs.Pieces.{pieces_from};
+ghost use Rattle.uvl_lex.specs.inside.Cursors.{left};
 
 use crate::cursor::Cursor;
 use crate::error::{LexError, LexReason};
@@ -29,6 +29,7 @@ pub fn logical_lines(alloc: Global, bytes: &[u8]) -> Result<Lines, LexError>
     }
 }
 
+/// How many line feeds there are.
 fn line_feeds(bytes: &[u8]) -> u32
     requires { length bytes.now ≤ 16777216 }
     ensures { result ≡ count_by (λ b. b == 10) bytes.now }
@@ -38,8 +39,8 @@ fn line_feeds(bytes: &[u8]) -> u32
 
 /// The lines from the cursor on.
 fn read_from(alloc: Global, start: Cursor<'_>) -> Result<Lines, LexError>
-    ensures lines { IfOk result (λ lines. on_ok all_lines (run_of [] (parts start.entry.place (left start.entry))) ≡ Ok lines) }
-    ensures refused { IfErr result (λ e. IsRefusal e (on_ok all_lines (run_of [] (parts start.entry.place (left start.entry))))) }
+    ensures lines { IfOk result (λ lines. on_ok all_lines (run_of [] (pieces_from start.entry.place (left start.entry))) ≡ Ok lines) }
+    ensures refused { IfErr result (λ e. IsRefusal e (on_ok all_lines (run_of [] (pieces_from start.entry.place (left start.entry))))) }
 {
     let mut reader = Reader::new(alloc);
     let mut cursor = start;

@@ -1,8 +1,8 @@
 //! The pieces that a text is cut into: blanks, line ends, comments and tokens.
 ghost use Rattle.std.specs.Prelude.{◌≡◌, ◌≢◌, ◌<◌, [], IsSome, unwrap_or, MatchOption, IsTrue};
 ghost use Rattle.uvl_lex.specs.Pieces.{first, fraction_len, sign_len, exponent_len, starts_name, quote, apostrophe, closed_after};
-ghost use Rattle.uvl_lex.specs.Cursors.{left, GoesOn, IsPieceAt};
-ghost use Rattle.uvl_lex.specs.Classes.{BeginsNoOther};
+ghost use Rattle.uvl_lex.specs.inside.Cursors.{left, GoesOn, IsPieceAt};
+ghost use Rattle.uvl_lex.specs.inside.Classes.{BeginsNoOther};
 ghost use Rattle.std.specs.Char.{is_ascii_digit};
 
 use crate::class::{Class, starts_name};
@@ -11,14 +11,18 @@ use crate::error::LexReason;
 use crate::token::{Mark, TokenKind};
 use crate::word::{keyword_of, mark_of};
 
-/// What stands at a place of the text.
+/// What stands at a place of the text. It is public because the definition of a text's lines names it.
 #[derive(Clone, Copy, Debug, PartialEq, Eq)]
-pub(crate) enum Piece {
+pub enum Piece {
     /// A space, a tab or a carriage return.
     Blank,
+    /// A line feed.
     LineEnd,
+    /// A comment of either form.
     Comment,
+    /// A token.
     Lexeme(TokenKind),
+    /// What may not stand there.
     Fault(LexReason),
 }
 
@@ -104,6 +108,7 @@ fn single_quoted(cursor: Cursor<'_>) -> (Piece, Cursor<'_>)
     (Piece::Lexeme(TokenKind::Text), end.skip())
 }
 
+/// A number, with its fraction and its exponent.
 fn number(cursor: Cursor<'_>) -> (Piece, Cursor<'_>)
     requires { IsTrue (is_ascii_digit (first (left cursor))) }
     ensures { IsPieceAt cursor.entry result.0 result.1 }

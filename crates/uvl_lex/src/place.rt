@@ -1,11 +1,11 @@
-//! Places in a text, and the cursor that goes over its characters.
+//! Places in a text.
 ghost use Rattle.std.specs.Prelude.{◌≡◌, ◌+◌, ◌<◌, ◌^◌};
 ghost use Rattle.uvl_lex.specs.Places.{after};
 
 /// A place between two characters: how many bytes stand before it, its physical line counted from
-/// 1, and its column counted from 0.
+/// 1, and its column counted from 0. It is public because the definition of a text's lines names it.
 #[derive(Clone, Copy, Debug, PartialEq, Eq)]
-pub(crate) struct Place {
+pub struct Place {
     pub offset: u32,
     pub line: u32,
     pub column: u32,

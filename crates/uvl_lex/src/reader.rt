@@ -1,6 +1,6 @@
 //! Lines that grow piece by piece.
 ghost use Rattle.std.specs.Prelude.{◌≡◌, ◌∷◌, [], List, OnOk, IfErr, IfOk};
-ghost use Rattle.uvl_lex.specs.Pieces.{Part};
+ghost use Rattle.uvl_lex.specs.Pieces.{PlacedPiece};
 
 use crate::bracket::Brackets;
 use crate::error::{LexError, LexReason};
@@ -18,11 +18,12 @@ pub(crate) struct Reader {
 }
 
 impl Reader {
-    ghost use Rattle.uvl_lex.specs.Progress.{answer, ended, grown};
+    ghost use Rattle.uvl_lex.specs.inside.Progress.{lines_after, ended, grown};
     ghost use Rattle.uvl_lex.specs.Reading.{run_of, on_ok, all_lines, IsRefusal};
 
+    /// A reader that has read nothing.
     pub fn new(alloc: Global) -> Self
-        ensures { (ps : List Part) → answer result ps ≡ on_ok all_lines (run_of [] ps) }
+        ensures { (ps : List PlacedPiece) → lines_after result ps ≡ on_ok all_lines (run_of [] ps) }
     {
         Reader {
             lines: Lines::new(alloc),
@@ -39,8 +40,8 @@ impl Reader {
         from: Place,
         upto: Place,
     ) -> Result<(), LexError>
-        ensures ok { OnOk result ((ps : List Part) → answer self.old (record { what = what; from = from; upto = upto } ∷ ps) ≡ answer self.new ps) }
-        ensures refused { IfErr result (λ e. (ps : List Part) → IsRefusal e (answer self.old (record { what = what; from = from; upto = upto } ∷ ps))) }
+        ensures ok { OnOk result ((ps : List PlacedPiece) → lines_after self.old (record { what = what; from = from; upto = upto } ∷ ps) ≡ lines_after self.new ps) }
+        ensures refused { IfErr result (λ e. (ps : List PlacedPiece) → IsRefusal e (lines_after self.old (record { what = what; from = from; upto = upto } ∷ ps))) }
     {
         match what {
             Piece::Blank | Piece::Comment => Ok(()),
@@ -107,8 +108,8 @@ impl Reader {
 
     /// The lines, at the end of the text.
     pub fn finish(mut self) -> Result<Lines, LexError>
-        ensures ok { IfOk result (λ lines. answer self [] ≡ Ok lines) }
-        ensures refused { IfErr result (λ e. IsRefusal e (answer self [])) }
+        ensures ok { IfOk result (λ lines. lines_after self [] ≡ Ok lines) }
+        ensures refused { IfErr result (λ e. IsRefusal e (lines_after self [])) }
     {
         if let Some(bracket) = self.open_brackets.pop() {
             return Err(LexError::Refused {

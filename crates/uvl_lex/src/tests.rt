@@ -1,3 +1,4 @@
+//! Readings of short texts, and the calls on a line.
 use super::*;
 use std::alloc::Global;
 use std::fmt::Write;

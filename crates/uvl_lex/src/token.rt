@@ -65,8 +65,10 @@ pub enum Mark {
     Semicolon,
 }
 
+/// What a token is.
 #[derive(Clone, Copy, Debug, PartialEq, Eq)]
 pub enum TokenKind {
+    /// A name that is no reserved word.
     Name,
     /// A name between double quotes.
     Quoted,
@@ -86,6 +88,7 @@ pub struct Token {
     pub line: u32,
 }
 
+/// The tokens of a line, in order.
 #[derive(Drop)]
 pub struct Tokens {
     items: Vec<Token>,
@@ -162,6 +165,7 @@ pub struct Line {
     pub tokens: Tokens,
 }
 
+/// The lines of a text, in order.
 #[derive(Drop)]
 pub struct Lines {
     items: Vec<Line>,

@@ -1,10 +1,11 @@
 //! Reserved words and marks.
 ghost use Rattle.std.specs.Prelude.{◌≡◌, IfSome};
 ghost use Rattle.uvl_lex.specs.Words.{keyword_of, spelling};
-ghost use Rattle.uvl_lex.specs.Classes.{mark_of, less_of, equals_of, one_or_two, single_of, IsWidth};
+ghost use Rattle.uvl_lex.specs.inside.Classes.{mark_of, less_of, equals_of, one_or_two, single_of, IsWidth};
 
 use crate::token::{Keyword, Mark};
 
+/// Every reserved word.
 const KEYWORDS: [Keyword; 16] = [
     Keyword::Namespace,
     Keyword::Include,
@@ -24,6 +25,7 @@ const KEYWORDS: [Keyword; 16] = [
     Keyword::False,
 ];
 
+/// How the word is written.
 fn spelling(keyword: Keyword) -> &'static [u8]
     ensures { result.now ≡ spelling keyword }
 {
@@ -74,6 +76,7 @@ pub(crate) fn mark_of(c: char, second: char, third: char) -> Option<(Mark, usize
     }
 }
 
+/// The mark that begins with `<`, and its length.
 fn less_of(second: char, third: char) -> (Mark, usize)
     ensures value { result ≡ less_of second third }
     ensures width { IsWidth result.1 }
@@ -87,6 +90,7 @@ fn less_of(second: char, third: char) -> (Mark, usize)
     }
 }
 
+/// The mark that begins with `=`, and its length.
 fn equals_of(second: char) -> (Mark, usize)
     ensures value { result ≡ equals_of second }
     ensures width { IsWidth result.1 }
@@ -98,6 +102,7 @@ fn equals_of(second: char) -> (Mark, usize)
     }
 }
 
+/// The mark of one character, or that of two where the second follows.
 fn one_or_two(one: Mark, second: char, follows: char, two: Mark) -> (Mark, usize)
     ensures value { result ≡ one_or_two one second follows two }
     ensures width { IsWidth result.1 }

@@ -2,10 +2,10 @@
 ghost use Rattle.std.specs.Prelude.{◌≡◌, ◌^◌, ◌+◌, ◌<◌, ◌≤◌, length, slice_get, IfSome, IfOk, IsTrue};
 ghost use Rattle.feature_tree.specs.Roles.{roles_of};
 ghost use Rattle.feature_tree.specs.Grammar.{chain, unary, member_of};
-ghost use Rattle.feature_tree.specs.Descent.{Answers, read, joins_at, closed, IsPast};
+ghost use Rattle.feature_tree.specs.inside.Descent.{Answers, read, joins_at, closed, IsPast};
 
 use crate::reader::error::FormulaError;
-use crate::reader::part::{Reading, joined};
+use crate::reader::parsed::{Parsed, joined};
 use crate::reader::role::{Level, Role};
 use std::alloc::Global;
 use uvl_lex::Token;
@@ -13,7 +13,7 @@ use uvl_lex::Token;
 /// A part that was read, and the number of the token after it.
 #[derive(Debug, Drop)]
 pub(crate) struct Found {
-    pub reading: Reading,
+    pub parsed: Parsed,
     pub after: usize,
 }
 
@@ -27,7 +27,7 @@ pub(crate) fn role_at(tokens: &[Token], at: usize) -> Option<Role>
 }
 
 /// Whether the token with this number joins members of a chain of this level.
-#[tactic(auto, unfolding(crate::specs::Descent::joins_at))]
+#[tactic(auto, unfolding(crate::specs::inside::Descent::joins_at))]
 fn joins_at(tokens: &[Token], at: usize, level: Level) -> bool
     ensures value { result ≡ joins_at (roles_of tokens.now) level at }
     ensures within { IsTrue result → at < length tokens.now }
@@ -39,17 +39,17 @@ fn joins_at(tokens: &[Token], at: usize, level: Level) -> bool
 }
 
 /// The part with the parentheses round it, of which the first stands before it.
-#[tactic(auto, unfolding(crate::specs::Descent::closed))]
+#[tactic(auto, unfolding(crate::specs::inside::Descent::closed))]
 fn closed(tokens: &[Token], part: Found) -> Result<Found, FormulaError>
-    requires { part.reading.height + 1 < 2 ^ 32 }
+    requires { part.parsed.height + 1 < 2 ^ 32 }
     ensures answers { Answers result (closed (roles_of tokens.now) part) }
     ensures past { IfOk result (λ whole. (whole.after ≡ part.after + 1) × (whole.after ≤ length tokens.now)) }
-    ensures height { IfOk result (λ whole. whole.reading.height ≡ part.reading.height + 1) }
+    ensures height { IfOk result (λ whole. whole.parsed.height ≡ part.parsed.height + 1) }
 {
-    let Found { reading, after } = part;
+    let Found { parsed, after } = part;
     match role_at(tokens, after) {
         Some(Role::Closes) => Ok(Found {
-            reading: reading.enclosed(),
+            parsed: parsed.enclosed(),
             after: after + 1,
         }),
         _ => Err(FormulaError::BadFormula),
@@ -69,13 +69,13 @@ fn read_not(alloc: Global, tokens: &[Token], at: usize, room: u32) -> Result<Fou
     }
     match role_at(tokens, at) {
         Some(Role::Name) => Ok(Found {
-            reading: Reading::named(at as u32),
+            parsed: Parsed::named(at as u32),
             after: at + 1,
         }),
         Some(Role::Not) => {
-            let Found { reading, after } = read_not(alloc, tokens, at + 1, room - 1)?;
-            let reading = reading.negated(alloc)?;
-            Ok(Found { reading, after })
+            let Found { parsed, after } = read_not(alloc, tokens, at + 1, room - 1)?;
+            let parsed = parsed.negated(alloc)?;
+            Ok(Found { parsed, after })
         }
         Some(Role::Opens) => {
             let part = read_chain(alloc, tokens, at + 1, Level::Same, room - 1)?;
@@ -122,18 +122,15 @@ pub(crate) fn read_chain(
     ensures past { IfOk result (IsPast room at (length tokens.now)) }
 {
     let Found {
-        reading: first,
+        parsed: first,
         mut after,
     } = read_member(alloc, tokens, at, level, room)?;
     let mut others = Vec::new(alloc);
     'members: while joins_at(tokens, after, level) {
-        let Found {
-            reading,
-            after: end,
-        } = read_member(alloc, tokens, after + 1, level, room)?;
-        others.push(reading)?;
+        let Found { parsed, after: end } = read_member(alloc, tokens, after + 1, level, room)?;
+        others.push(parsed)?;
         after = end;
     }
-    let reading = joined(alloc, level, first, others, room)?;
-    Ok(Found { reading, after })
+    let parsed = joined(alloc, level, first, others, room)?;
+    Ok(Found { parsed, after })
 }

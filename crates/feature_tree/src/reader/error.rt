@@ -8,6 +8,7 @@ pub enum FormulaError {
     /// A number, a text, a truth value, a sign of reckoning or comparing, or a call of a function.
     #[error("a kind of expression that is not supported")]
     Unsupported,
+    /// Nothing is read of the tokens.
     #[error("the tokens are no formula")]
     BadFormula,
     /// The height is above 200.

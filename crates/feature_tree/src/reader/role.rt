@@ -4,23 +4,31 @@ ghost use Rattle.feature_tree.specs.Roles.{role_of, role_of_mark, joins};
 
 use uvl_lex::{Keyword, Mark, TokenKind};
 
-/// The chains of the grammar, loosest first.
+/// The chains of the grammar, loosest first. It is public because the grammar names it.
 #[derive(Clone, Copy, Debug, PartialEq, Eq)]
-pub(crate) enum Level {
+pub enum Level {
+    /// `<=>`
     Same,
+    /// `=>`
     Implies,
+    /// `|`
     Any,
+    /// `&`
     All,
 }
 
-/// The role that a token has in a formula.
+/// The role that a token has in a formula. It is public because the grammar names it.
 #[derive(Clone, Copy, Debug, PartialEq, Eq)]
-pub(crate) enum Role {
+pub enum Role {
+    /// A name, quoted or not.
     Name,
+    /// `!`
     Not,
     /// It joins the members of a chain.
     Joins(Level),
+    /// `(`
     Opens,
+    /// `)`
     Closes,
     /// No formula has it yet, and it is refused as such.
     Unsupported,
@@ -29,7 +37,8 @@ pub(crate) enum Role {
 }
 
 impl Role {
-    pub fn of(kind: TokenKind) -> Role
+    /// The role of a token of this kind.
+    pub(crate) fn of(kind: TokenKind) -> Role
         ensures { result ≡ role_of kind }
     {
         match kind {
@@ -41,6 +50,7 @@ impl Role {
         }
     }
 
+    /// The role of a mark.
     fn of_mark(mark: Mark) -> Role
         ensures { result ≡ role_of_mark mark }
     {
@@ -62,7 +72,7 @@ impl Role {
     }
 
     /// Whether the token joins members of a chain of this level.
-    pub fn joins(self, level: Level) -> bool
+    pub(crate) fn joins(self, level: Level) -> bool
         ensures { result ≡ joins level self }
     {
         matches!(

@@ -2,7 +2,7 @@
 ghost use Rattle.std.specs.Prelude.{◌≡◌, ◌^◌, ◌+◌, ◌<◌, length, IsTrue, IsFalse};
 ghost use Rattle.feature_tree.specs.Roles.{roles_of, has_unsupported};
 ghost use Rattle.feature_tree.specs.Grammar.{HasFormula};
-ghost use Rattle.feature_tree.specs.Scan.{is_name, is_unsupported, next_place};
+ghost use Rattle.feature_tree.specs.inside.Scan.{is_name, is_unsupported, next_stage};
 
 use crate::reader::role::Role;
 use uvl_lex::Token;
@@ -22,12 +22,14 @@ pub(crate) fn has_unsupported(tokens: &[Token]) -> bool
     false
 }
 
+/// Whether the token is a name.
 fn is_name(role: Role) -> bool
     ensures { result ≡ is_name role }
 {
     matches!(role, Role::Name)
 }
 
+/// Whether no formula has such a token yet, where a name stands before it or not.
 fn is_unsupported(follows_name: bool, role: Role) -> bool
     ensures { result ≡ is_unsupported follows_name role }
 {
@@ -43,52 +45,53 @@ pub(crate) fn is_formula(tokens: &[Token]) -> bool
     ensures yes { IsTrue result → HasFormula (roles_of tokens.now) }
     ensures no { IsFalse result → HasFormula (roles_of tokens.now) → ⊥ }
 {
-    let mut place = Place {
+    let mut stage = Stage {
         wants_operand: true,
         depth: 0,
     };
     for token in tokens {
-        match place.after(Role::of(token.kind)) {
-            Some(next) => place = next,
+        match stage.after(Role::of(token.kind)) {
+            Some(next) => stage = next,
             None => return false,
         }
     }
-    !place.wants_operand && place.depth == 0
+    !stage.wants_operand && stage.depth == 0
 }
 
 /// Where a formula stands after some of its tokens.
 #[derive(Clone, Copy, Debug)]
-pub(crate) struct Place {
+pub(crate) struct Stage {
     /// An operand has to come, or one stands before.
     pub wants_operand: bool,
     /// How many parentheses are open.
     pub depth: usize,
 }
 
-impl Place {
-    fn after(self, role: Role) -> Option<Place>
+impl Stage {
+    /// After one token more; none where that may not stand here.
+    fn after(self, role: Role) -> Option<Stage>
         requires { self.depth + 1 < 2 ^ 64 }
-        ensures { result ≡ next_place self.wants_operand self.depth role }
+        ensures { result ≡ next_stage self.wants_operand self.depth role }
     {
-        let Place {
+        let Stage {
             wants_operand,
             depth,
         } = self;
         match (wants_operand, role) {
-            (true, Role::Name) => Some(Place {
+            (true, Role::Name) => Some(Stage {
                 wants_operand: false,
                 depth,
             }),
             (true, Role::Not) => Some(self),
-            (true, Role::Opens) => Some(Place {
+            (true, Role::Opens) => Some(Stage {
                 wants_operand,
                 depth: depth + 1,
             }),
-            (false, Role::Joins(_)) => Some(Place {
+            (false, Role::Joins(_)) => Some(Stage {
                 wants_operand: true,
                 depth,
             }),
-            (false, Role::Closes) if 0 < depth => Some(Place {
+            (false, Role::Closes) if 0 < depth => Some(Stage {
                 wants_operand,
                 depth: depth - 1,
             }),

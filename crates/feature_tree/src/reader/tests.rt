@@ -1,3 +1,4 @@
+//! Formulas of short texts, and of long lists of tokens.
 ghost use Rattle.std.specs.Prelude.{◌^◌, ◌<◌, length, IsTrue};
 
 use super::*;
@@ -127,7 +128,7 @@ fn shown(alloc: Global, bytes: &[u8]) -> Result<String, Fail> {
     match logical_lines(alloc, bytes) {
         Ok(lines) => {
             for line in lines.as_slice() {
-                show_reading(alloc, &mut out, line.tokens.as_slice())?;
+                show_answer(alloc, &mut out, line.tokens.as_slice())?;
             }
         }
         Err(LexError::Refused { line, reason }) => write!(out, "{line} {reason:?}")?,
@@ -136,7 +137,7 @@ fn shown(alloc: Global, bytes: &[u8]) -> Result<String, Fail> {
     Ok(out)
 }
 
-fn show_reading(alloc: Global, out: &mut String, tokens: &[Token]) -> Result<(), Fail> {
+fn show_answer(alloc: Global, out: &mut String, tokens: &[Token]) -> Result<(), Fail> {
     if !is_short(tokens) {
         return Ok(());
     }

@@ -6,7 +6,7 @@ use Rattle.std.proofs.lemmas.Option.{unwrap_or-slice_get, slice_get_read, slice_
 use Rattle.feature_tree.specs.declared.feature.Feature.{Feature}
 use Rattle.feature_tree.specs.Truth.{is_in}
 use Rattle.feature_tree.specs.Decided.{is_settled as settled}
-use Rattle.feature_tree.specs.Within.{IsWithin}
+use Rattle.feature_tree.specs.inside.Within.{IsWithin}
 use Rattle.feature_tree.proofs.feature.members_are_settled.Goals as goal
 use Rattle.feature_tree.proofs.feature.members_are_settled.Goals.{else-in_set-i-via-then-in_set-i+else-not-is_settled, else-in_set-i-via-else-in_set-i}
 

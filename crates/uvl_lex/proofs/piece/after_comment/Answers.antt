@@ -1,7 +1,7 @@
 use Rattle.std.proofs.Common.{◌≡◌, ℕ, ◌+◌, ◌==◌, ◌&&◌, false, Some, refl, sym, ◌∙◌, ap, arith}
 use Rattle.std.specs.Option.{option_map}
 use Rattle.std.proofs.lemmas.Bool.{and_left, and_right, ne_eqb}
-use Rattle.uvl_lex.specs.Cursors.{left}
+use Rattle.uvl_lex.specs.inside.Cursors.{left}
 use Rattle.uvl_lex.specs.Pieces.{first, closed_after}
 use Rattle.uvl_lex.proofs.CursorLemmas.{goes_then, goes_so, goes_one}
 use Rattle.uvl_lex.proofs.ScanLemmas.{closed_here, closed_later, one_further}

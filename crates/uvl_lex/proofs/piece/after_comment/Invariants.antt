@@ -1,6 +1,6 @@
 use Rattle.std.proofs.Common.{◌≡◌, ℕ, ◌+◌, length}
 use Rattle.std.specs.Option.{option_map}
-use Rattle.uvl_lex.specs.Cursors.{left, GoesOn}
+use Rattle.uvl_lex.specs.inside.Cursors.{left, GoesOn}
 use Rattle.uvl_lex.specs.Pieces.{closed_after}
 use Rattle.uvl_lex.proofs.piece.after_comment.Given as goal
 

@@ -1,5 +1,5 @@
 use Rattle.std.proofs.Common.{◌≡◌, ◌==◌, ◌||◌, true}
-use Rattle.uvl_lex.specs.Cursors.{left}
+use Rattle.uvl_lex.specs.inside.Cursors.{left}
 use Rattle.uvl_lex.specs.Pieces.{digits, first}
 use Rattle.uvl_lex.proofs.CursorLemmas.{goes_then, goes_so}
 use Rattle.uvl_lex.proofs.ScanLemmas.{exponent_is, either_e}

@@ -1,5 +1,5 @@
 use Rattle.std.proofs.Common.{◌≡◌, sym, ◌∙◌}
-use Rattle.uvl_lex.specs.Cursors.{left}
+use Rattle.uvl_lex.specs.inside.Cursors.{left}
 use Rattle.uvl_lex.specs.Pieces.{digits}
 use Rattle.uvl_lex.proofs.CursorLemmas.{goes_then, goes_so}
 use Rattle.uvl_lex.proofs.ScanLemmas.{fraction_is}

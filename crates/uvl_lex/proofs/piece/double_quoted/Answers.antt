@@ -1,7 +1,7 @@
 use Rattle.std.proofs.Common.{◌≡◌, ◌+◌, drop, refl, ◌∙◌, ap, arith}
 use Rattle.std.specs.List.{prefix_len}
-use Rattle.uvl_lex.specs.Classes.{is_plain}
-use Rattle.uvl_lex.specs.Cursors.{left}
+use Rattle.uvl_lex.specs.inside.Classes.{is_plain}
+use Rattle.uvl_lex.specs.inside.Cursors.{left}
 use Rattle.uvl_lex.specs.declared.piece.Piece.TheVariants.{Lexeme}
 use Rattle.uvl_lex.specs.Pieces.{first, first_piece, inside_len, is_inside, quote}
 use Rattle.uvl_lex.proofs.CursorLemmas.{goes_then}

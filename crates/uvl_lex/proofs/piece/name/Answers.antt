@@ -1,5 +1,5 @@
 use Rattle.std.proofs.Common.{◌≡◌, refl, sym, ◌∙◌, ap}
-use Rattle.uvl_lex.specs.Cursors.{left, GoesOn}
+use Rattle.uvl_lex.specs.inside.Cursors.{left, GoesOn}
 use Rattle.uvl_lex.specs.Pieces.{name_kind, name_len, kind_of_word}
 use Rattle.uvl_lex.specs.Words.{keyword_of}
 use Rattle.uvl_lex.proofs.CursorLemmas.{goes_then, goes_so, bytes_fewer, bytes_passed}

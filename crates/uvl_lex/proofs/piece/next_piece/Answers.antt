@@ -1,5 +1,5 @@
 use Rattle.std.proofs.Common.{◌≡◌, true, refl, sym, ◌∙◌}
-use Rattle.uvl_lex.specs.Cursors.{left}
+use Rattle.uvl_lex.specs.inside.Cursors.{left}
 use Rattle.uvl_lex.specs.Pieces.{first, is_blank}
 use Rattle.uvl_lex.proofs.PieceLemmas.{piece_is}
 use Rattle.uvl_lex.proofs.ScanLemmas.{any_blank, blank_first, line_end_first}

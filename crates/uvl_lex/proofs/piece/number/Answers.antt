@@ -1,4 +1,4 @@
-use Rattle.uvl_lex.specs.Cursors.{left}
+use Rattle.uvl_lex.specs.inside.Cursors.{left}
 use Rattle.uvl_lex.proofs.CursorLemmas.{goes_then}
 use Rattle.uvl_lex.proofs.PieceLemmas.{piece_is}
 use Rattle.uvl_lex.proofs.ScanLemmas.{at_number, number_is}

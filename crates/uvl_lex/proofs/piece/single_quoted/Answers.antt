@@ -1,6 +1,6 @@
 use Rattle.std.proofs.Common.{◌≡◌, ◌+◌, refl, arith}
 use Rattle.std.specs.List.{prefix_len}
-use Rattle.uvl_lex.specs.Cursors.{left}
+use Rattle.uvl_lex.specs.inside.Cursors.{left}
 use Rattle.uvl_lex.specs.Pieces.{inside_len, is_inside, apostrophe}
 use Rattle.uvl_lex.proofs.CursorLemmas.{goes_then}
 use Rattle.uvl_lex.proofs.PieceLemmas.{piece_is}

@@ -1,7 +1,7 @@
 use Rattle.std.proofs.Common.{◌≡◌, ◌∙◌, ◌<◌, ◌-◌, sym, ap, subst, arith, length, [], Ok, Err, ◌+◌, rules}
 use Rattle.feature_tree.specs.Roles.{roles_of}
 use Rattle.feature_tree.specs.Grammar.{unary}
-use Rattle.feature_tree.specs.Descent.{Answers, read}
+use Rattle.feature_tree.specs.inside.Descent.{Answers, read}
 use Rattle.feature_tree.proofs.DescentSteps.{length-roles, exit_answers, chain-first-err, go_on-start, go_on-step, go_on-step-err, finish-err, finish-ok, none_low, low-push, read-unary-zero, read-unary-name, read-unary-other, not-err, not-ok, opens-err, opens-ok, pushed}
 use Rattle.feature_tree.proofs.reader.descent.+descent.Goals as goal
 
@@ -23,14 +23,14 @@ read_chain-members-init t c =
       whole = go_on-start (roles_of c.args.tokens.now) c.args.level c.args.room c.args.at c.in_ok-first.field-0 c.new-others.result.items none c.in_ok-first.ensures.answers;
     }
 
-pub read_chain-returns-in_err-reading-clause-answers : goal.read_chain-returns-in_err-reading-clause-answers
-read_chain-returns-in_err-reading-clause-answers t c =
+pub read_chain-returns-in_err-parsed-clause-answers : goal.read_chain-returns-in_err-parsed-clause-answers
+read_chain-returns-in_err-parsed-clause-answers t c =
     let size = length-roles c.args.tokens.now in
     let below : length c.members.others.items < length (roles_of c.args.tokens.now) = omega arith in
-    exit_answers c.from_residual-in_err-reading.result c.in_err-reading.field-0.0 _ c.from_residual-in_err-reading.ensures.1
-    (subst (Answers (Err c.in_err-reading.field-0.0)) c.members.invariant.whole
-    (go_on-step-err (roles_of c.args.tokens.now) c.args.level c.args.room c.in_ok-first.field-0.reading (length (roles_of c.args.tokens.now)) c.members.others.items c.members.after
-    c.in_err-reading.field-0.0 below (sym c.joins_at.ensures.value ∙ c.members-test.true) c.in_err-reading.ensures.answers))
+    exit_answers c.from_residual-in_err-parsed.result c.in_err-parsed.field-0.0 _ c.from_residual-in_err-parsed.ensures.1
+    (subst (Answers (Err c.in_err-parsed.field-0.0)) c.members.invariant.whole
+    (go_on-step-err (roles_of c.args.tokens.now) c.args.level c.args.room c.in_ok-first.field-0.parsed (length (roles_of c.args.tokens.now)) c.members.others.items c.members.after
+    c.in_err-parsed.field-0.0 below (sym c.joins_at.ensures.value ∙ c.members-test.true) c.in_err-parsed.ensures.answers))
 
 pub read_chain-members-preserved : goal.read_chain-members-preserved
 read_chain-members-preserved t c =
@@ -38,41 +38,41 @@ read_chain-members-preserved t c =
     let below : length c.members.others.items < length (roles_of c.args.tokens.now) = omega arith in
     let count : length c.push.new.self.items ≡ length c.members.others.items + 1 = pushed _ _ _ c.in_ok-push.ensures.items in
     record {
-      behind = omega (arith, c.in_ok-reading.ensures.past);
-      past = omega (arith, c.in_ok-reading.ensures.past);
-      inside = omega (arith, c.in_ok-reading.ensures.past);
+      behind = omega (arith, c.in_ok-parsed.ensures.past);
+      past = omega (arith, c.in_ok-parsed.ensures.past);
+      inside = omega (arith, c.in_ok-parsed.ensures.past);
       first_is_low = omega arith;
-      others_are_low = low-push c.args.room c.members.others.items c.in_ok-reading.field-0.reading c.push.new.self.items c.members.invariant.others_are_low c.in_ok-reading.ensures.past.low c.in_ok-push.ensures.items;
-      whole = go_on-step (roles_of c.args.tokens.now) c.args.level c.args.room c.in_ok-first.field-0.reading (length (roles_of c.args.tokens.now)) c.members.others.items c.members.after
-          c.in_ok-reading.field-0 c.push.new.self.items below (sym c.joins_at.ensures.value ∙ c.members-test.true) c.in_ok-reading.ensures.answers c.in_ok-push.ensures.items
+      others_are_low = low-push c.args.room c.members.others.items c.in_ok-parsed.field-0.parsed c.push.new.self.items c.members.invariant.others_are_low c.in_ok-parsed.ensures.past.low c.in_ok-push.ensures.items;
+      whole = go_on-step (roles_of c.args.tokens.now) c.args.level c.args.room c.in_ok-first.field-0.parsed (length (roles_of c.args.tokens.now)) c.members.others.items c.members.after
+          c.in_ok-parsed.field-0 c.push.new.self.items below (sym c.joins_at.ensures.value ∙ c.members-test.true) c.in_ok-parsed.ensures.answers c.in_ok-push.ensures.items
           ∙ c.members.invariant.whole;
     }
 
-pub read_chain-returns-in_err-reading-2-clause-answers : goal.read_chain-returns-in_err-reading-2-clause-answers
-read_chain-returns-in_err-reading-2-clause-answers t c =
-    exit_answers c.from_residual-in_err-reading-2.result c.in_err-reading-2.field-0.0 _ c.from_residual-in_err-reading-2.ensures.1
-    (subst (Answers (Err c.in_err-reading-2.field-0.0)) c.members.invariant.whole
-    (finish-err (roles_of c.args.tokens.now) c.args.room c.args.level c.in_ok-first.field-0.reading (length (roles_of c.args.tokens.now) - length c.members.others.items) c.members.others.items c.members.after
-    c.in_err-reading-2.field-0.0 (sym c.joins_at.ensures.value ∙ c.members-test.false) c.in_err-reading-2.ensures.answers))
+pub read_chain-returns-in_err-parsed-2-clause-answers : goal.read_chain-returns-in_err-parsed-2-clause-answers
+read_chain-returns-in_err-parsed-2-clause-answers t c =
+    exit_answers c.from_residual-in_err-parsed-2.result c.in_err-parsed-2.field-0.0 _ c.from_residual-in_err-parsed-2.ensures.1
+    (subst (Answers (Err c.in_err-parsed-2.field-0.0)) c.members.invariant.whole
+    (finish-err (roles_of c.args.tokens.now) c.args.room c.args.level c.in_ok-first.field-0.parsed (length (roles_of c.args.tokens.now) - length c.members.others.items) c.members.others.items c.members.after
+    c.in_err-parsed-2.field-0.0 (sym c.joins_at.ensures.value ∙ c.members-test.false) c.in_err-parsed-2.ensures.answers))
 
 pub read_chain-returns-clause-answers : goal.read_chain-returns-clause-answers
 read_chain-returns-clause-answers t c =
     sym c.members.invariant.whole
-    ∙ finish-ok (roles_of c.args.tokens.now) c.args.room c.args.level c.in_ok-first.field-0.reading (length (roles_of c.args.tokens.now) - length c.members.others.items) c.members.others.items c.members.after
-    c.in_ok-reading-2.reading (sym c.joins_at.ensures.value ∙ c.members-test.false) c.in_ok-reading-2.ensures.answers
+    ∙ finish-ok (roles_of c.args.tokens.now) c.args.room c.args.level c.in_ok-first.field-0.parsed (length (roles_of c.args.tokens.now) - length c.members.others.items) c.members.others.items c.members.after
+    c.in_ok-parsed-2.parsed (sym c.joins_at.ensures.value ∙ c.members-test.false) c.in_ok-parsed-2.ensures.answers
 
 pub read_not-returns-then-room-eq0-clause-answers : goal.read_not-returns-then-room-eq0-clause-answers
 read_not-returns-then-room-eq0-clause-answers t c = ap (λ r. read (roles_of c.args.tokens.now) unary r c.args.at) c.if-room-eq0.true ∙ read-unary-zero (roles_of c.args.tokens.now) c.args.at
 
-pub read_not-returns-in_err-reading-in-Some-Not-clause-answers : goal.read_not-returns-in_err-reading-in-Some-Not-clause-answers
-read_not-returns-in_err-reading-in-Some-Not-clause-answers t c =
-    exit_answers c.from_residual.result c.in_err-reading-in-Some-Not.field-0.0 _ c.from_residual.ensures.1
-    (not-err (roles_of c.args.tokens.now) c.args.room c.args.at c.in_err-reading-in-Some-Not.field-0.0 c.if-room-eq0.false (cc) c.in_err-reading-in-Some-Not.ensures.answers)
+pub read_not-returns-in_err-parsed-in-Some-Not-clause-answers : goal.read_not-returns-in_err-parsed-in-Some-Not-clause-answers
+read_not-returns-in_err-parsed-in-Some-Not-clause-answers t c =
+    exit_answers c.from_residual.result c.in_err-parsed-in-Some-Not.field-0.0 _ c.from_residual.ensures.1
+    (not-err (roles_of c.args.tokens.now) c.args.room c.args.at c.in_err-parsed-in-Some-Not.field-0.0 c.if-room-eq0.false (cc) c.in_err-parsed-in-Some-Not.ensures.answers)
 
-pub read_not-returns-in_ok-reading-in-Some-Not-2-clause-answers : goal.read_not-returns-in_ok-reading-in-Some-Not-2-clause-answers
-read_not-returns-in_ok-reading-in-Some-Not-2-clause-answers t c =
-    not-ok (roles_of c.args.tokens.now) c.args.room c.args.at c.in_ok-reading-in-Some-Not.field-0 c.in_ok-reading-in-Some-Not-2.reading c.if-room-eq0.false (cc)
-    c.in_ok-reading-in-Some-Not.ensures.answers c.in_ok-reading-in-Some-Not-2.ensures
+pub read_not-returns-in_ok-parsed-in-Some-Not-2-clause-answers : goal.read_not-returns-in_ok-parsed-in-Some-Not-2-clause-answers
+read_not-returns-in_ok-parsed-in-Some-Not-2-clause-answers t c =
+    not-ok (roles_of c.args.tokens.now) c.args.room c.args.at c.in_ok-parsed-in-Some-Not.field-0 c.in_ok-parsed-in-Some-Not-2.parsed c.if-room-eq0.false (cc)
+    c.in_ok-parsed-in-Some-Not.ensures.answers c.in_ok-parsed-in-Some-Not-2.ensures
 
 pub read_not-returns-in_err-part-in-Some-Opens-clause-answers : goal.read_not-returns-in_err-part-in-Some-Opens-clause-answers
 read_not-returns-in_err-part-in-Some-Opens-clause-answers t c =
@@ -86,7 +86,7 @@ read_not-returns-in_ok-part-in-Some-Opens-clause-answers t c =
 
 pub read_not-returns-in-Some-Name-clause-answers : goal.read_not-returns-in-Some-Name-clause-answers
 read_not-returns-in-Some-Name-clause-answers t c =
-    read-unary-name (roles_of c.args.tokens.now) c.args.room c.args.at c.if-room-eq0.false (cc) ∙ ap (λ r. Ok (record { reading = r; after = c.args.at + 1 })) (sym c.named.ensures)
+    read-unary-name (roles_of c.args.tokens.now) c.args.room c.args.at c.if-room-eq0.false (cc) ∙ ap (λ r. Ok (record { parsed = r; after = c.args.at + 1 })) (sym c.named.ensures)
 
 pub read_not-returns-in_default-clause-answers : goal.read_not-returns-in_default-clause-answers
 read_not-returns-in_default-clause-answers t c =

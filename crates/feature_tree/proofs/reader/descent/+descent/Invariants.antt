@@ -1,7 +1,7 @@
 use Rattle.std.proofs.Common.{◌≡◌, ◌+◌, ◌-◌, ◌*◌, ◌<◌, ◌≤◌, All, length}
 use Rattle.feature_tree.specs.Roles.{roles_of}
 use Rattle.feature_tree.specs.Grammar.{chain}
-use Rattle.feature_tree.specs.Descent.{IsLow, read}
+use Rattle.feature_tree.specs.inside.Descent.{IsLow, read}
 use Rattle.feature_tree.proofs.DescentSteps.{rank, go_on}
 use Rattle.feature_tree.proofs.reader.descent.+descent.Given as goal
 

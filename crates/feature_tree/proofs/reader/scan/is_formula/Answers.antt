@@ -11,19 +11,19 @@ returns-in-None-clause-no c = λ _ has.
     let fails : scan true 0 (roles_of c.args.tokens.now) ≡ false = grind (arith, common_steps, scan-next) in
     no_formula (roles_of c.args.tokens.now) fails has
 
-pub returns-then-not-place-clause-yes : goal.returns-then-not-place-clause-yes
-returns-then-not-place-clause-yes c = λ is_zero.
+pub returns-then-not-stage-clause-yes : goal.returns-then-not-stage-clause-yes
+returns-then-not-stage-clause-yes c = λ is_zero.
     let ends = ap roles_of (drop_all c.loop-token.token-index c.args.tokens.now c.loop-token-test.false) in
-    let none : c.loop-token.place.depth ≡ 0 = grind (arith, nat_tests) in
-    at_end-yes _ _ c.loop-token.place.wants_operand c.loop-token.place.depth c.loop-token.invariant.rest ends (not-true c.if-not-place.true) none
+    let none : c.loop-token.stage.depth ≡ 0 = grind (arith, nat_tests) in
+    at_end-yes _ _ c.loop-token.stage.wants_operand c.loop-token.stage.depth c.loop-token.invariant.rest ends (not-true c.if-not-stage.true) none
 
-pub returns-then-not-place-clause-no : goal.returns-then-not-place-clause-no
-returns-then-not-place-clause-no c = λ is_not has.
+pub returns-then-not-stage-clause-no : goal.returns-then-not-stage-clause-no
+returns-then-not-stage-clause-no c = λ is_not has.
     let ends = ap roles_of (drop_all c.loop-token.token-index c.args.tokens.now c.loop-token-test.false) in
-    let some : 0 < c.loop-token.place.depth = grind (arith, nat_tests) in
-    no_formula (roles_of c.args.tokens.now) (at_end-open (roles_of c.args.tokens.now) _ c.loop-token.place.wants_operand c.loop-token.place.depth c.loop-token.invariant.rest ends some) has
+    let some : 0 < c.loop-token.stage.depth = grind (arith, nat_tests) in
+    no_formula (roles_of c.args.tokens.now) (at_end-open (roles_of c.args.tokens.now) _ c.loop-token.stage.wants_operand c.loop-token.stage.depth c.loop-token.invariant.rest ends some) has
 
-pub returns-else-not-place-clause-no : goal.returns-else-not-place-clause-no
-returns-else-not-place-clause-no c = λ _ has.
+pub returns-else-not-stage-clause-no : goal.returns-else-not-stage-clause-no
+returns-else-not-stage-clause-no c = λ _ has.
     let ends = ap roles_of (drop_all c.loop-token.token-index c.args.tokens.now c.loop-token-test.false) in
-    no_formula (roles_of c.args.tokens.now) (at_end-wants (roles_of c.args.tokens.now) _ c.loop-token.place.wants_operand c.loop-token.place.depth c.loop-token.invariant.rest ends (not-false c.if-not-place.false)) has
+    no_formula (roles_of c.args.tokens.now) (at_end-wants (roles_of c.args.tokens.now) _ c.loop-token.stage.wants_operand c.loop-token.stage.depth c.loop-token.invariant.rest ends (not-false c.if-not-stage.false)) has

@@ -5,6 +5,6 @@ use Rattle.feature_tree.proofs.reader.scan.is_formula.Given as goal
 
 abbrev pub invariant-loop-token : goal.invariant-loop-token
 invariant-loop-token l = record {
-  counted : l.place.depth ≤ l.token-index;
-  rest : scan l.place.wants_operand l.place.depth (roles_of (drop l.token-index l.tokens)) ≡ scan true 0 (roles_of l.tokens);
+  counted : l.stage.depth ≤ l.token-index;
+  rest : scan l.stage.wants_operand l.stage.depth (roles_of (drop l.token-index l.tokens)) ≡ scan true 0 (roles_of l.tokens);
 }

@@ -1,8 +1,8 @@
 use Rattle.std.proofs.Common.{◌≡◌, ℕ, ◌+◌, sym, ◌∙◌, subst, arith}
 use Rattle.std.specs.List.{prefix_len}
 use Rattle.std.proofs.lemmas.List.Sums.{prefix_len-le-length}
-use Rattle.uvl_lex.specs.Classes.{in_class}
-use Rattle.uvl_lex.specs.Cursors.{left, GoesOn}
+use Rattle.uvl_lex.specs.inside.Classes.{in_class}
+use Rattle.uvl_lex.specs.inside.Cursors.{left, GoesOn}
 use Rattle.uvl_lex.proofs.CursorLemmas.{goes_none, goes_one, goes_then, left_bound, prefix_len-some, prefix_len-other, prefix_len-none}
 use Rattle.uvl_lex.proofs.cursor.Cursor.skip_while.Goals as goal
 use Rattle.uvl_lex.proofs.cursor.Cursor.skip_while.Goals.{in-Some+then-not-contains, in_default}

@@ -1,7 +1,7 @@
 use Rattle.std.proofs.Common.{◌≡◌, ◌+◌, length}
 use Rattle.std.specs.List.{prefix_len}
-use Rattle.uvl_lex.specs.Classes.{in_class}
-use Rattle.uvl_lex.specs.Cursors.{left, GoesOn}
+use Rattle.uvl_lex.specs.inside.Classes.{in_class}
+use Rattle.uvl_lex.specs.inside.Cursors.{left, GoesOn}
 use Rattle.uvl_lex.proofs.cursor.Cursor.skip_while.Given as goal
 
 -- all characters that have been passed are in the class

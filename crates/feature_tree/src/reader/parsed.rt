@@ -1,7 +1,7 @@
 //! What has been read of a formula, and how parts are joined.
 ghost use Rattle.std.specs.Prelude.{◌≡◌, ◌^◌, ◌+◌, ◌<◌, ◌≤◌, IfOk, All};
 ghost use Rattle.feature_tree.specs.Grammar.{named, negated, enclosed, paired, in_one_node};
-ghost use Rattle.feature_tree.specs.Descent.{Answers, pair_of, node_of, joined_within, joined_from_the_left, IsLow};
+ghost use Rattle.feature_tree.specs.inside.Descent.{Answers, pair_of, node_of, joined_within, joined_from_the_left, IsLow};
 
 use crate::formula::{Formula, Formulas};
 use crate::reader::error::FormulaError;
@@ -10,48 +10,54 @@ use lists::Row;
 use sqlite_items::Boxed;
 use std::alloc::{AllocError, Global};
 
-/// A formula, in which each name is the number of its token, with its height.
+/// A formula that was parsed, with its height. It is public because the grammar names it.
 #[derive(Debug, Drop)]
-pub(crate) struct Reading {
+pub struct Parsed {
+    /// Each name in it is the number of its token.
     pub formula: Formula,
+    /// 1 for a name.
     pub height: u32,
 }
 
-impl Reading {
-    pub fn named(token: u32) -> Reading
+impl Parsed {
+    /// A name that is the token of this number.
+    pub(crate) fn named(token: u32) -> Parsed
         ensures { result ≡ named token }
     {
-        Reading {
+        Parsed {
             formula: Formula::Name(token),
             height: 1,
         }
     }
 
-    pub fn negated(self, alloc: Global) -> Result<Reading, AllocError>
+    /// With a `!` before it.
+    pub(crate) fn negated(self, alloc: Global) -> Result<Parsed, AllocError>
         requires { self.height + 1 < 2 ^ 32 }
         ensures { IfOk result (λ whole. whole ≡ negated self) }
     {
-        let Reading { formula, height } = self;
+        let Parsed { formula, height } = self;
         let formula = Formula::Not(Boxed::new(alloc, formula)?);
-        Ok(Reading {
+        Ok(Parsed {
             formula,
             height: height + 1,
         })
     }
 
-    pub fn into_formula(self) -> Formula
+    /// Without its height.
+    pub(crate) fn into_formula(self) -> Formula
         ensures { result ≡ self.formula }
     {
-        let Reading { formula, .. } = self;
+        let Parsed { formula, .. } = self;
         formula
     }
 
-    pub fn enclosed(self) -> Reading
+    /// In parentheses.
+    pub(crate) fn enclosed(self) -> Parsed
         requires { self.height + 1 < 2 ^ 32 }
         ensures { result ≡ enclosed self }
     {
-        let Reading { formula, height } = self;
-        Reading {
+        let Parsed { formula, height } = self;
+        Parsed {
             formula,
             height: height + 1,
         }
@@ -62,10 +68,10 @@ impl Reading {
 pub(crate) fn joined(
     alloc: Global,
     level: Level,
-    first: Reading,
-    others: Vec<Reading>,
+    first: Parsed,
+    others: Vec<Parsed>,
     room: u32,
-) -> Result<Reading, FormulaError>
+) -> Result<Parsed, FormulaError>
     requires narrow { room + 1 < 2 ^ 32 }
     requires first_is_low { IsLow room first }
     requires others_are_low { All (IsLow room) others.items }
@@ -82,14 +88,14 @@ pub(crate) fn joined(
     Ok(whole)
 }
 
-/// It ends as soon as the pairs are too high, so that none is ever much higher.
+/// What is read of a chain that groups from the left. It ends as soon as the pairs are too high, so that none is ever much higher.
 fn from_the_left(
     alloc: Global,
     level: Level,
-    first: Reading,
-    others: Vec<Reading>,
+    first: Parsed,
+    others: Vec<Parsed>,
     room: u32,
-) -> Result<Reading, FormulaError>
+) -> Result<Parsed, FormulaError>
     requires narrow { room + 1 < 2 ^ 32 }
     requires first_is_low { IsLow room first }
     requires others_are_low { All (IsLow room) others.items }
@@ -105,29 +111,31 @@ fn from_the_left(
     Ok(whole)
 }
 
-fn paired(alloc: Global, level: Level, left: Reading, right: Reading) -> Result<Reading, AllocError>
+/// Two parts, joined by a node of two.
+fn paired(alloc: Global, level: Level, left: Parsed, right: Parsed) -> Result<Parsed, AllocError>
     requires left_is_low { left.height + 1 < 2 ^ 32 }
     requires right_is_low { right.height + 1 < 2 ^ 32 }
     ensures { IfOk result (λ whole. whole ≡ paired (pair_of level) left right) }
 {
     let height = left.height.max(right.height) + 1;
-    let Reading { formula, .. } = left;
+    let Parsed { formula, .. } = left;
     let before = Boxed::new(alloc, formula)?;
-    let Reading { formula, .. } = right;
+    let Parsed { formula, .. } = right;
     let after = Boxed::new(alloc, formula)?;
     let formula = match level {
         Level::Same => Formula::Same(before, after),
         _ => Formula::Implies(before, after),
     };
-    Ok(Reading { formula, height })
+    Ok(Parsed { formula, height })
 }
 
+/// What is read of a chain that is one node.
 fn in_one_node(
     alloc: Global,
     level: Level,
-    first: Reading,
-    others: Vec<Reading>,
-) -> Result<Reading, AllocError>
+    first: Parsed,
+    others: Vec<Parsed>,
+) -> Result<Parsed, AllocError>
     requires first_is_low { first.height + 1 < 2 ^ 32 }
     requires others_are_low { All (λ part. part.height + 1 < 2 ^ 32) others.items }
     ensures { IfOk result (λ whole. whole ≡ in_one_node (node_of level) first others.items) }
@@ -135,7 +143,7 @@ fn in_one_node(
     if others.is_empty() {
         return Ok(first);
     }
-    let Reading {
+    let Parsed {
         formula,
         mut height,
     } = first;
@@ -143,14 +151,14 @@ fn in_one_node(
     parts.push(formula)?;
     for next in others {
         height = height.max(next.height);
-        let Reading { formula, .. } = next;
+        let Parsed { formula, .. } = next;
         parts.push(formula)?;
     }
     let formula = match level {
         Level::Any => Formula::Any(parts),
         _ => Formula::All(parts),
     };
-    Ok(Reading {
+    Ok(Parsed {
         formula,
         height: height + 1,
     })

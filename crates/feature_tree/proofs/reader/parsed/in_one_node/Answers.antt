@@ -1,10 +1,10 @@
 use Rattle.std.proofs.Common.{arith, ◌+◌, ◌<◌, ◌^◌}
 use Rattle.std.proofs.lemmas.Grind.{common_steps}
-use Rattle.feature_tree.specs.declared.reader.part.Reading.{Reading}
+use Rattle.feature_tree.specs.declared.reader.parsed.Parsed.{Parsed}
 use Rattle.feature_tree.proofs.Heights.{node_step-parts, node_step-height, All-rest, All-next}
-use Rattle.feature_tree.proofs.reader.part.in_one_node.Goals as goal
+use Rattle.feature_tree.proofs.reader.parsed.in_one_node.Goals as goal
 
-abbrev IsLowHere : Reading → Type 0
+abbrev IsLowHere : Parsed → Type 0
 IsLowHere part = part.height + 1 < 2 ^ 32
 
 pub loop-next-preserved : goal.loop-next-preserved

@@ -1,7 +1,7 @@
 use Rattle.std.proofs.Common.{arith}
-use Rattle.feature_tree.specs.Descent.{pair_of, IsLow}
+use Rattle.feature_tree.specs.inside.Descent.{pair_of, IsLow}
 use Rattle.feature_tree.proofs.Heights.{left_step, left_too_high, All-rest}
-use Rattle.feature_tree.proofs.reader.part.from_the_left.Goals as goal
+use Rattle.feature_tree.proofs.reader.parsed.from_the_left.Goals as goal
 
 pub returns-then-whole-room : goal.returns-then-whole-room
 returns-then-whole-room c =

@@ -1,10 +1,10 @@
--- What a reader that has read a part of the text makes of the pieces that follow.
+-- What a reader that has read the beginning of a text makes of the pieces that follow.
 use Rattle.std.specs.Prelude.{ℕ, List, [], ◌∷◌, ◌++◌, Option, Some, None}
 use Rattle.uvl_lex.specs.declared.reader.Reader.{Reader}
 use Rattle.uvl_lex.specs.declared.token.Line.{Line}
 use Rattle.uvl_lex.specs.declared.token.Token.{Token}
-use Rattle.uvl_lex.specs.Pieces.{Part}
-use Rattle.uvl_lex.specs.Reading.{Answer, Run, run_of, on_ok, tokens_of, all_lines}
+use Rattle.uvl_lex.specs.Pieces.{PlacedPiece}
+use Rattle.uvl_lex.specs.Reading.{OrFault, Run, run_of, on_ok, tokens_of, all_lines}
 
 -- the run that goes on with a line that has begun
 abbrev pub resumed : Option Line → Run → Run
@@ -16,9 +16,9 @@ resumed (Some line) run =
 abbrev pub lines_with : List Line → Option Line → Run → List Line
 lines_with done current run = done ++ all_lines (resumed current run)
 
--- what the pieces that follow make of the reader's state
-abbrev pub answer : Reader → List Part → Answer (List Line)
-answer reader ps = on_ok (lines_with reader.lines reader.current) (run_of reader.open_brackets ps)
+-- the lines of the reader and of the pieces that follow, or the first fault among these
+abbrev pub lines_after : Reader → List PlacedPiece → OrFault (List Line)
+lines_after reader ps = on_ok (lines_with reader.lines reader.current) (run_of reader.open_brackets ps)
 
 -- the lines with one that has ended
 abbrev pub ended : List Line → Option Line → List Line

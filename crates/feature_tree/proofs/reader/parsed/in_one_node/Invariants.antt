@@ -1,6 +1,6 @@
 use Rattle.std.proofs.Common.{◌≡◌, ◌∷◌, ◌++◌, ◌+◌, ◌<◌, ◌^◌, All, map, max}
 use Rattle.feature_tree.specs.Grammar.{highest}
-use Rattle.feature_tree.proofs.reader.part.in_one_node.Given as goal
+use Rattle.feature_tree.proofs.reader.parsed.in_one_node.Given as goal
 
 abbrev pub invariant-loop-next : goal.invariant-loop-next
 invariant-loop-next l = record {

@@ -5,9 +5,9 @@ use Rattle.std.proofs.lemmas.List.{length-drop}
 use Rattle.uvl_lex.specs.declared.cursor.Cursor.{Cursor}
 use Rattle.uvl_lex.specs.declared.piece.Piece.{Piece}
 use Rattle.uvl_lex.specs.declared.place.Place.{Place}
-use Rattle.uvl_lex.specs.Cursors.{left, IsPieceAt}
+use Rattle.uvl_lex.specs.inside.Cursors.{left, IsPieceAt}
 use Rattle.uvl_lex.specs.Places.{after, along}
-use Rattle.uvl_lex.specs.Pieces.{Part, longest, candidates, first_piece, first_part, parts_after, parts}
+use Rattle.uvl_lex.specs.Pieces.{PlacedPiece, longest, candidates, first_piece, first_placed, pieces_after, pieces_from}
 
 longest_some : (ps : List (Piece × ℕ)) → 0 < (longest ps).1
 longest_some [] = omega arith
@@ -22,29 +22,29 @@ pub first_piece_some : (cs : List ℕ) → 0 < (first_piece cs).1
 unfolding first_piece
 first_piece_some cs = longest_some (candidates cs)
 
-parts_past : (n : ℕ) (at : Place) (cs : List ℕ) → parts_after n at cs ≡ parts_after 0 (along at (take n cs)) (drop n cs)
-unfolding parts_after
-parts_past zero at [] = refl
-parts_past zero at (c ∷ cs) = refl
-parts_past (suc n) at [] = refl
-parts_past (suc n) at (c ∷ cs) = parts_past n (after at c) cs
+pieces_past : (n : ℕ) (at : Place) (cs : List ℕ) → pieces_after n at cs ≡ pieces_after 0 (along at (take n cs)) (drop n cs)
+unfolding pieces_after
+pieces_past zero at [] = refl
+pieces_past zero at (c ∷ cs) = refl
+pieces_past (suc n) at [] = refl
+pieces_past (suc n) at (c ∷ cs) = pieces_past n (after at c) cs
 
 -- the pieces after the first one are those of what follows it
-pub parts_first : (at : Place) (cs : List ℕ) → cs ≢ []
-    → parts at cs ≡ first_part at cs ∷ parts (along at (take (first_piece cs).1 cs)) (drop (first_piece cs).1 cs)
-unfolding parts_after
-parts_first at [] h = absurd (h refl)
-parts_first at (c ∷ cs) h =
+pub pieces_first : (at : Place) (cs : List ℕ) → cs ≢ []
+    → pieces_from at cs ≡ first_placed at cs ∷ pieces_from (along at (take (first_piece cs).1 cs)) (drop (first_piece cs).1 cs)
+unfolding pieces_after
+pieces_first at [] h = absurd (h refl)
+pieces_first at (c ∷ cs) h =
     let some = first_piece_some (c ∷ cs) in
     let e : (first_piece (c ∷ cs)).1 ≡ suc ((first_piece (c ∷ cs)).1 - 1) = omega arith in
-    ap (λ (ps : List Part). first_part at (c ∷ cs) ∷ ps)
-    (parts_past ((first_piece (c ∷ cs)).1 - 1) (after at c) cs
-    ∙ ap (λ (n : ℕ). parts_after 0 (along at (take n (c ∷ cs))) (drop n (c ∷ cs))) (sym e))
+    ap (λ (ps : List PlacedPiece). first_placed at (c ∷ cs) ∷ ps)
+    (pieces_past ((first_piece (c ∷ cs)).1 - 1) (after at c) cs
+    ∙ ap (λ (n : ℕ). pieces_after 0 (along at (take n (c ∷ cs))) (drop n (c ∷ cs))) (sym e))
 
-pub parts_next : (k now : Cursor) (what : Piece) → left k ≢ [] → IsPieceAt k what now
-    → parts k.place (left k) ≡ record { what = what; from = k.place; upto = now.place } ∷ parts now.place (left now)
-parts_next k now what h p =
-    parts_first k.place (left k) h ∙ rw (p.piece, p.goes_on.place, p.goes_on.rest) refl
+pub pieces_next : (k now : Cursor) (what : Piece) → left k ≢ [] → IsPieceAt k what now
+    → pieces_from k.place (left k) ≡ record { what = what; from = k.place; upto = now.place } ∷ pieces_from now.place (left now)
+pieces_next k now what h p =
+    pieces_first k.place (left k) h ∙ rw (p.piece, p.goes_on.place, p.goes_on.rest) refl
 
 has_length : (cs : List ℕ) → cs ≢ [] → 0 < length cs
 has_length [] h = absurd (h refl)
@@ -57,6 +57,6 @@ fewer_left k now what h p =
     rw (p.goes_on.rest, length-drop (first_piece (left k)).1 (left k)) (omega arith)
 
 -- at the end of the text there are no pieces
-pub parts_none : (at : Place) (cs : List ℕ) → cs ≡ [] → parts at cs ≡ []
-unfolding parts_after
-parts_none at cs e = rw e refl
+pub pieces_none : (at : Place) (cs : List ℕ) → cs ≡ [] → pieces_from at cs ≡ []
+unfolding pieces_after
+pieces_none at cs e = rw e refl

@@ -1,7 +1,7 @@
 use Rattle.std.proofs.Common.{◌≡◌, ◌≤◌, All}
 use Rattle.feature_tree.specs.Grammar.{from_the_left}
-use Rattle.feature_tree.specs.Descent.{pair_of, IsLow}
-use Rattle.feature_tree.proofs.reader.part.from_the_left.Given as goal
+use Rattle.feature_tree.specs.inside.Descent.{pair_of, IsLow}
+use Rattle.feature_tree.proofs.reader.parsed.from_the_left.Given as goal
 
 abbrev pub invariant-loop-next : goal.invariant-loop-next
 invariant-loop-next l = record {
