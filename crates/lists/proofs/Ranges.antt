@@ -1,5 +1,5 @@
 -- Ranges of numbers.
-use Rattle.std.proofs.Common.{◌≡◌, ◌∙◌, refl, sym, ap, ℕ, zero, suc, ◌+◌, List, [], ◌∷◌, ◌++◌, arith, zero-add, add-zero}
+use Rattle.std.proofs.Common.{◌≡◌, ◌∙◌, refl, ap, ℕ, zero, suc, ◌+◌, List, [], ◌∷◌, ◌++◌, arith, add-zero}
 use Rattle.std.specs.List.{range_with_len}
 
 -- one number more
@@ -9,11 +9,3 @@ range_with_len-push a (suc m) =
     let more : suc m + 1 ≡ suc (m + 1) = omega arith in
     let last : (a + 1) + m ≡ a + suc m = omega arith in
     ap (range_with_len a) more ∙ ap (λ t. a ∷ t) (range_with_len-push (a + 1) m ∙ ap (λ k. range_with_len (a + 1) m ++ k ∷ []) last)
-
--- a range in two parts
-pub range_with_len-split : (a m k : ℕ) → range_with_len a (m + k) ≡ range_with_len a m ++ range_with_len (a + m) k
-range_with_len-split a zero k = ap (range_with_len a) (zero-add k) ∙ ap (λ n. range_with_len n k) (sym (add-zero a))
-range_with_len-split a (suc m) k =
-    let more : suc m + k ≡ suc (m + k) = omega arith in
-    let next : (a + 1) + m ≡ a + suc m = omega arith in
-    ap (range_with_len a) more ∙ ap (λ t. a ∷ t) (range_with_len-split (a + 1) m k ∙ ap (λ n. range_with_len (a + 1) m ++ range_with_len n k) next)

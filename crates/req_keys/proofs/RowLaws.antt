@@ -14,7 +14,7 @@ use Rattle.std.proofs.Math.Bool.{or-true, or-false}
 use Rattle.std.proofs.lemmas.Bool.{cases_eq, cases_lt, cases_Bool, eq-eqb, ne_eqb, eqb-true, false≢true, true≢false, lt-ltb, le-ltb, le-leb, lt-leb, and_parts}
 use Rattle.req_keys.specs.Words.{bit_of, bits_where, word_count}
 use Rattle.req_keys.proofs.WordLaws.{bits_where-zero, bits_where-push, bits_where-lt, bit_at-bits_where, cond-mul, place}
-use Rattle.lists.proofs.Ranges.{range_with_len-split}
+use Rattle.lists.proofs.RangeParts.{range-append}
 use Rattle.req_keys.specs.Positions.{positions_where}
 use Rattle.req_keys.specs.inside.Rows.{IsRow, HasBits, AreSame, AreWithin, AreApart, IsInSecond, IsInSecondWord, positions_to, AreDone}
 use Rattle.req_keys.proofs.PositionsLaws.{filter-range_push, filter-range_agree, filter-range_none}
@@ -315,7 +315,7 @@ shown_by-more words j =
     let whole : 64 * (j + 1) ≡ 64 * j + 64 = omega arith in
     let next : 1 + 64 * j ≡ 64 * j + 1 = omega arith in
     ap (λ n. filter test (range_with_len 1 n)) whole
-    ∙ ap (filter test) (range_with_len-split 1 (64 * j) 64)
+    ∙ ap (filter test) (sym (range-append 1 (64 * j) 64))
     ∙ filter-append test (range_with_len 1 (64 * j)) (range_with_len (1 + 64 * j) 64)
     ∙ ap (λ n. shown_by words j ++ filter test (range_with_len n 64)) next
     ∙ ap (λ t. shown_by words j ++ t)
@@ -346,7 +346,7 @@ shown_by-members n words h =
     let past : ℕ = 64 * length words - n in
     let whole : 64 * length words ≡ n + past = omega arith in
     ap (λ m. filter test (range_with_len 1 m)) whole
-    ∙ ap (filter test) (range_with_len-split 1 n past)
+    ∙ ap (filter test) (sym (range-append 1 n past))
     ∙ filter-append test (range_with_len 1 n) (range_with_len (1 + n) past)
     ∙ ap (λ t. positions_where n test ++ t)
     (filter-range_none test (1 + n) past (λ p low high. h.over.1 (p - 1) (omega arith) (omega arith)))
@@ -365,7 +365,7 @@ positions_to-skip first word low high le none =
     let more : ℕ = high - low in
     let whole : high ≡ low + more = omega arith in
     ap (λ m. filter test (range_with_len first m)) whole
-    ∙ ap (filter test) (range_with_len-split first low more)
+    ∙ ap (filter test) (sym (range-append first low more))
     ∙ filter-append test (range_with_len first low) (range_with_len (first + low) more)
     ∙ ap (λ t. filter test (range_with_len first low) ++ t)
     (filter-range_none test (first + low) more (λ p l u. is_unset-from word (p - first) (none (p - first) (omega arith) (omega arith))))
