@@ -4,7 +4,6 @@ use Rattle.std.proofs.lemmas.Bool.{cases_eq, eq-eqb, ne_eqb}
 use Rattle.std.specs.List.{range_with_len, filter}
 use Rattle.std.proofs.lemmas.List.Elements.{filter-append}
 use Rattle.lists.proofs.Ranges.{range_with_len-push}
-use Rattle.req_keys.specs.Key.{IsKey, key_where}
 use Rattle.req_keys.specs.Positions.{RiseWithin, has, positions_where}
 
 -- a filter at its first element

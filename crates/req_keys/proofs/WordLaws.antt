@@ -1,22 +1,19 @@
 -- Words of 64 bits by the positions that they show.
-use Rattle.std.proofs.Common.{◌≡◌, ℕ, zero, suc, ◌+◌, ◌-◌, ◌*◌, ◌/◌, ◌%◌, ◌^◌, ◌<◌, ◌≤◌, ◌↔◌, Bool, true, false, cond, eqb, List, [], ◌∷◌, ◌++◌, length, get_or, refl, sym, ◌∙◌, ap, arith, ⊎_elim, zero-add, add-zero, add_comm}
-use Rattle.std.specs.Prelude.{sum_by, IsBitSet, IsTrue, bit_and, bit_or, ◌==◌}
-use Rattle.std.specs.Int.Bits.{or_shifted_r}
+use Rattle.std.proofs.Common.{◌≡◌, ℕ, zero, suc, ◌+◌, ◌-◌, ◌*◌, ◌/◌, ◌%◌, ◌^◌, ◌<◌, ◌≤◌, ◌↔◌, Bool, true, false, cond, eqb, List, [], ◌∷◌, length, get_or, refl, sym, ◌∙◌, ap, arith, ⊎_elim, zero-add, add_comm}
+use Rattle.std.specs.Prelude.{sum_by, IsBitSet, IsTrue, bit_and, ◌==◌}
 use Rattle.std.specs.Int.{bit_at}
-use Rattle.std.specs.List.{range_with_len, filter}
+use Rattle.std.specs.List.{range_with_len}
 use Rattle.std.proofs.lemmas.Nat.Bits.{bit_at_cat_low, bit_at_cat_high, bit_at-lt, bit_at_above, and_pow, shr_and_one, same_from_bits_below}
-use Rattle.std.proofs.lemmas.Nat.{div-mul-add, mod-mul-add, pow_pos, pow_below}
-use Rattle.std.proofs.Math.Pow.{pow_mono}
-use Rattle.std.proofs.Math.Nat.{pow-suc, zero-mul, one-mul, mod-eq_of_lt, mul_comm}
-use Rattle.std.proofs.lemmas.List.{append-nil}
+use Rattle.std.proofs.lemmas.Nat.{div-mul-add, mod-mul-add, pow_pos}
+use Rattle.std.proofs.Math.Nat.{pow-suc, zero-mul, mul_comm}
 use Rattle.std.proofs.lemmas.List.Sums.{sum_by-append}
 use Rattle.std.proofs.lemmas.List.FromFn.{get_or-map-range_with_len, fill_by_all}
-use Rattle.std.proofs.lemmas.Bool.{cases_lt, eq-eqb, ne_eqb, false≢true}
+use Rattle.std.proofs.lemmas.Bool.{cases_lt, false≢true}
 use Rattle.req_keys.specs.Positions.{RiseWithin, has, positions_where}
 use Rattle.req_keys.specs.Key.{PositionSet}
 use Rattle.req_keys.specs.Words.{bits_where, word_count, word_of, words_of, bit_of, key_of_words, IsRowOver}
 use Rattle.lists.proofs.Ranges.{range_with_len-push}
-use Rattle.req_keys.proofs.PositionsLaws.{filter-range_push, has-low, has-first, has-other, RiseWithin-lower, has-filter_range, has-high, positions_where-has, filter-range_agree, RiseWithin-filter_range}
+use Rattle.req_keys.proofs.PositionsLaws.{has-filter_range, has-high, positions_where-has, filter-range_agree, RiseWithin-filter_range}
 
 pub bits_where-zero : (t : ℕ → Bool) → bits_where t 0 ≡ 0
 unfolding bits_where

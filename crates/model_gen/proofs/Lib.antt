@@ -1,0 +1,5 @@
+pub mod DrawLaws
+pub mod NodeLaws
+pub mod TextLaws
+pub mod TreeLaws
+pub mod WholeLaws
