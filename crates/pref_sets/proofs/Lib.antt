@@ -1,5 +1,6 @@
 pub mod BestLaws
 pub mod ClosedTables
+pub mod FastDiagAsks
 pub mod FastDiagLaws
 pub mod GreedyLaws
 pub mod KeptByHalves
@@ -8,6 +9,7 @@ pub mod PlanLaws
 pub mod PlansLeft
 pub mod PositionLaws
 pub mod PreferredLaws
+pub mod QuickXplainAsks
 pub mod QuickXplainLaws
 pub mod RisingPositions
 pub mod TestLaws

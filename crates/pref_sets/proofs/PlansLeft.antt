@@ -32,6 +32,10 @@ pub AsksOnly-both : (A B R S : List ℕ → Type 0) (plan : Plan) → AsksOnly A
 AsksOnly-both A B R S (found set) h k = h
 AsksOnly-both A B R S (asks set go) h k = ((h.0, k.0), λ sat. AsksOnly-both A B R S (go sat) (h.1 sat) (k.1 sat))
 
+pub AsksOnly-and : (A B R S : List ℕ → Type 0) (plan : Plan) → AsksOnly A R plan → AsksOnly B S plan → AsksOnly (λ set. A set × B set) (λ set. R set × S set) plan
+AsksOnly-and A B R S (found set) h k = (h, k)
+AsksOnly-and A B R S (asks set go) h k = ((h.0, k.0), λ sat. AsksOnly-and A B R S (go sat) (h.1 sat) (k.1 sat))
+
 pub AsksOnly-any : (A : List ℕ → Type 0) (plan : Plan) → ((set : List ℕ) → A set) → AsksOnly A (λ set. Unit {0}) plan
 AsksOnly-any A (found set) h = tt
 AsksOnly-any A (asks set go) h = (h set, λ sat. AsksOnly-any A (go sat) h)
