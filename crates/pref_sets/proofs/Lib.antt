@@ -11,6 +11,7 @@ pub mod PositionLaws
 pub mod PreferredLaws
 pub mod QuickXplainAsks
 pub mod QuickXplainLaws
+pub mod Renumbered
 pub mod RisingPositions
 pub mod TestLaws
 pub mod TrimLaws

@@ -18,8 +18,8 @@ pub use laws::{
 pub use lists::Numbers;
 pub use recursions::{
     answers_in_turn, fd_asks_new_sets, fd_behind_asks_new_sets, fd_behind_ends, fd_ends,
-    fd_goes_by_halves, fd_is_kept, fd_of_closed_table, fd_over_more_answers, qx_asks_new_sets,
-    qx_ends, qx_goes_by_halves, qx_is_trimmed, qx_of_closed_table, qx_over_more_answers,
-    right_answers_agree,
+    fd_goes_by_halves, fd_goes_by_places, fd_is_kept, fd_of_closed_table, fd_over_more_answers,
+    qx_asks_new_sets, qx_ends, qx_goes_by_halves, qx_is_trimmed, qx_of_closed_table,
+    qx_over_more_answers, right_answers_agree,
 };
 pub use trimming::{MonotoneTest, trim};

@@ -1,5 +1,6 @@
 //! What FastDiag and QuickXplain over a table of answers find, which sets they ask, and that they end.
 ghost use Rattle.std.specs.Prelude.{◌≡◌, ℕ, ◌*◌, ◌-◌, ◌≤◌, Bool, true, false, MatchBool, Some, None, List, [], ◌∷◌, ◌++◌, length, All, Contains};
+ghost use Rattle.std.specs.List.{range_with_len};
 ghost use Rattle.std.specs.List.Sorted.{IsStrictlyIncreasing};
 ghost use Rattle.pref_sets.specs.Answers.{Answer, AgreesWith, IsClosed, IsWithinSat, IsToldInTurn, Next, Ask, Done, answer_to, and_then, same_set};
 ghost use Rattle.pref_sets.specs.FastDiag.{fd, fd_behind, fd_part, unless_sat};
@@ -8,6 +9,7 @@ ghost use Rattle.pref_sets.specs.Positions.{union, lower_half, upper_half};
 ghost use Rattle.pref_sets.specs.Preferred.{AgreeOn, IsWithin, IsPreferredConflictTo};
 ghost use Rattle.pref_sets.specs.Properties.{PassesToFewer};
 ghost use Rattle.pref_sets.specs.QuickXplain.{qx, qx_behind, qx_part, unless_unsat};
+ghost use Rattle.pref_sets.specs.Renumbering.{at_places, AnswersByPlaces, AnswersSomeByPlaces, next_at_places};
 ghost use Rattle.pref_sets.specs.Trimmed.{IsTrimmed};
 
 use crate::laws::Property;
@@ -239,6 +241,25 @@ pub fn qx_over_more_answers()
         ((set : List ℕ) (sat : Bool) → IsWithin set positions →
         answer_to table set ≡ Some sat → answer_to other set ≡ Some sat) →
         qx positions table ≡ Done left → qx positions other ≡ Done left }
+{}
+
+/// FastDiag of ascending positions behind a background is FastDiag over their places 1, 2, .., m and a table that answers
+/// by places. What the one asks, the other asks of the positions there with the background; what the one keeps is kept.
+/// Where the table has more answers, it asks the same while it has none on that set, and keeps the same.
+pub fn fd_goes_by_places()
+    ensures same { (positions background : List ℕ) (table small : List Answer) → IsStrictlyIncreasing positions →
+        AnswersByPlaces positions background table small →
+        fd_behind table positions background true ≡
+        next_at_places positions background (fd (range_with_len 1 (length positions)) small) }
+    ensures asks { (positions background places : List ℕ) (table small : List Answer) →
+        IsStrictlyIncreasing positions → AnswersSomeByPlaces positions background table small →
+        fd (range_with_len 1 (length positions)) small ≡ Ask places →
+        answer_to table (union background (at_places positions places)) ≡ None →
+        fd_behind table positions background true ≡ Ask (union background (at_places positions places)) }
+    ensures finds { (positions background places : List ℕ) (table small : List Answer) →
+        IsStrictlyIncreasing positions → AnswersSomeByPlaces positions background table small →
+        fd (range_with_len 1 (length positions)) small ≡ Done places →
+        fd_behind table positions background true ≡ Done (at_places positions places) }
 {}
 
 /// The number of positions is count enough for FastDiag: a greater count changes nothing, and the recursion goes by
