@@ -8,10 +8,10 @@ use Rattle.pref_sets.specs.Answers.{same_set}
 use Rattle.pref_sets.specs.Plan.{Plan, found, chain, AsksOnly}
 use Rattle.pref_sets.specs.Positions.{union, lower_half, upper_half}
 use Rattle.pref_sets.specs.Preferred.{IsWithin}
-use Rattle.pref_sets.proofs.FastDiagLaws.{sat_plan, fd_plan, fd_plan-within, fd_plan-ascends}
-use Rattle.pref_sets.proofs.PlanLaws.{AsksOnly-chain}
+use Rattle.pref_sets.proofs.FastDiagPlan.{sat_plan, fd_plan, fd_plan-within, fd_plan-ascends}
+use Rattle.pref_sets.proofs.Plans.{AsksOnly-chain}
 use Rattle.pref_sets.proofs.PlansLeft.{AsksOnly-weaker, AsksOnly-and}
-use Rattle.pref_sets.proofs.PositionLaws.{Ascends, Ascends-apart, AreBelow, Ascends-same, AreApart, apart-below, member-of_some, union-has, union-cases, halves-join, halves-length}
+use Rattle.pref_sets.proofs.AscendingPositions.{Ascends, Ascends-apart, AreBelow, Ascends-same, AreApart, apart-below, member-of_some, union-has, union-cases, halves-join, halves-length}
 use Rattle.lists.proofs.Members.{first as contains_first, none as contains_none}
 
 -- the set has one of the positions

@@ -7,8 +7,8 @@ use Rattle.std.proofs.lemmas.Bool.{cases_Bool}
 use Rattle.std.proofs.lemmas.Slice.Eq.{bytes_eq-Decides}
 use Rattle.pref_sets.specs.Answers.{Answer, Next, Ask, Done, answer_to, with_answer, told_in_turn}
 use Rattle.pref_sets.specs.Plan.{Plan, found, asks, over, chain, AsksOnly, AsksOnce, IsLeft}
-use Rattle.pref_sets.proofs.PlanLaws.{AsksOnly-chain, over-known, answer_to-beyond, answer_to-first}
-use Rattle.pref_sets.proofs.TurnLaws.{told-push}
+use Rattle.pref_sets.proofs.Plans.{AsksOnly-chain, over-known, answer_to-beyond, answer_to-first}
+use Rattle.pref_sets.proofs.ToldInTurn.{told-push}
 
 pub asks-same : (set : List ℕ) (f g : Bool → Plan) → ((sat : Bool) → f sat ≡ g sat) → asks set f ≡ asks set g
 asks-same set f g h = λ i. asks set (λ sat. h sat i)

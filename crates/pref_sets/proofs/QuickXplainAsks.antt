@@ -5,10 +5,10 @@ use Rattle.std.proofs.lemmas.List.Elements.{Contains-append_left, Contains-appen
 use Rattle.pref_sets.specs.Plan.{Plan, found, chain, AsksOnly}
 use Rattle.pref_sets.specs.Positions.{union, lower_half, upper_half}
 use Rattle.pref_sets.specs.Preferred.{IsWithin}
-use Rattle.pref_sets.proofs.QuickXplainLaws.{unsat_plan, qx_plan, qx_plan-within}
-use Rattle.pref_sets.proofs.PlanLaws.{AsksOnly-chain}
+use Rattle.pref_sets.proofs.QuickXplainPlan.{unsat_plan, qx_plan, qx_plan-within}
+use Rattle.pref_sets.proofs.Plans.{AsksOnly-chain}
 use Rattle.pref_sets.proofs.PlansLeft.{AsksOnly-weaker, AsksOnly-and}
-use Rattle.pref_sets.proofs.PositionLaws.{Ascends, Ascends-apart, AreBelow, AreApart, apart-below, union-has, union-cases, halves-join, lower-within, upper-within}
+use Rattle.pref_sets.proofs.AscendingPositions.{Ascends, Ascends-apart, AreBelow, AreApart, apart-below, union-has, union-cases, halves-join, lower-within, upper-within}
 use Rattle.lists.proofs.Members.{first as contains_first, none as contains_none}
 
 -- the set has a member, and not all of the positions

@@ -13,10 +13,10 @@ use Rattle.pref_sets.specs.Plan.{Plan, found, asks, over, chain, AsksOnly}
 use Rattle.pref_sets.specs.Positions.{union, lower_half, upper_half}
 use Rattle.pref_sets.specs.Preferred.{IsWithin}
 use Rattle.pref_sets.specs.Renumbering.{at_places, AnswersByPlaces, AnswersSomeByPlaces, next_at_places}
-use Rattle.pref_sets.proofs.FastDiagLaws.{sat_plan, fd_plan, fd_part-plan, fd_plan-within, fd_plan-ascends}
-use Rattle.pref_sets.proofs.PlanLaws.{IsAsked, GoesOn, over-cases, over-known}
+use Rattle.pref_sets.proofs.FastDiagPlan.{sat_plan, fd_plan, fd_part-plan, fd_plan-within, fd_plan-ascends}
+use Rattle.pref_sets.proofs.Plans.{IsAsked, GoesOn, over-cases, over-known}
 use Rattle.pref_sets.proofs.PlansLeft.{AsksOnly-and}
-use Rattle.pref_sets.proofs.PositionLaws.{HaveSame, Ascends, Ascends-apart, AreBelow, Ascends-same, union-ascends, union-cases, union-has, halves-join, lower-within, upper-within}
+use Rattle.pref_sets.proofs.AscendingPositions.{HaveSame, Ascends, Ascends-apart, AreBelow, Ascends-same, union-ascends, union-cases, union-has, halves-join, lower-within, upper-within}
 use Rattle.pref_sets.proofs.RisingPositions.{Ascends-from_rises, rises-from_Ascends}
 use Rattle.req_keys.specs.Positions.{RiseWithin}
 use Rattle.req_keys.proofs.PositionsLaws.{RiseWithin-range}

@@ -1,9 +1,9 @@
 use Rattle.std.proofs.Common.{[], true, length, sym, ◌∙◌}
 use Rattle.pref_sets.specs.Preferred.{IsWithin}
 use Rattle.pref_sets.proofs.FastDiagAsks.{AsksPart, AsksPart-proper, fd_plan-part}
-use Rattle.pref_sets.proofs.FastDiagLaws.{fd_plan, fd_part-plan, fd_plan-within, fd_plan-ascends}
-use Rattle.pref_sets.proofs.PlanLaws.{AsksOnly-asked, over-new}
-use Rattle.pref_sets.proofs.PositionLaws.{Ascends, Ascends-from_increasing, IsStrictlyIncreasing-from_Ascends}
+use Rattle.pref_sets.proofs.FastDiagPlan.{fd_plan, fd_part-plan, fd_plan-within, fd_plan-ascends}
+use Rattle.pref_sets.proofs.Plans.{AsksOnly-asked, over-new}
+use Rattle.pref_sets.proofs.AscendingPositions.{Ascends, Ascends-from_increasing, IsStrictlyIncreasing-from_Ascends}
 use Rattle.lists.proofs.Members.{none as contains_none}
 use Rattle.pref_sets.proofs.recursions.fd_asks_new_sets.Goals as goal
 

@@ -3,9 +3,9 @@ use Rattle.std.proofs.lemmas.List.Elements.{Contains-append_left, Contains-appen
 use Rattle.pref_sets.specs.Positions.{union}
 use Rattle.pref_sets.specs.Preferred.{IsWithin}
 use Rattle.pref_sets.proofs.FastDiagAsks.{AsksPart, fd_plan-part}
-use Rattle.pref_sets.proofs.FastDiagLaws.{fd_plan, fd_part-plan, fd_plan-within, fd_plan-ascends}
-use Rattle.pref_sets.proofs.PlanLaws.{AsksOnly-asked, over-new}
-use Rattle.pref_sets.proofs.PositionLaws.{Ascends, Ascends-from_increasing, IsStrictlyIncreasing-from_Ascends, union-has}
+use Rattle.pref_sets.proofs.FastDiagPlan.{fd_plan, fd_part-plan, fd_plan-within, fd_plan-ascends}
+use Rattle.pref_sets.proofs.Plans.{AsksOnly-asked, over-new}
+use Rattle.pref_sets.proofs.AscendingPositions.{Ascends, Ascends-from_increasing, IsStrictlyIncreasing-from_Ascends, union-has}
 use Rattle.pref_sets.proofs.recursions.fd_behind_asks_new_sets.Goals as goal
 
 pub returns-clause-new : goal.returns-clause-new

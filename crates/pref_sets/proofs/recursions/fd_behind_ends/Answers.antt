@@ -2,9 +2,9 @@ use Rattle.std.proofs.Common.{◌≡◌, List, ℕ, ◌++◌, true, length, sym,
 use Rattle.pref_sets.specs.Answers.{Answer, IsToldInTurn}
 use Rattle.pref_sets.specs.FastDiag.{fd_behind}
 use Rattle.pref_sets.specs.Plan.{Plan, over}
-use Rattle.pref_sets.proofs.FastDiagLaws.{fd_plan, fd_part-plan, fd_plan-most}
-use Rattle.pref_sets.proofs.PlanLaws.{AsksAtMost, AsksAtMost-weaker, over-stays}
-use Rattle.pref_sets.proofs.TurnLaws.{IsToldInTurn-same, told-few, told-done, told-answered, told-once}
+use Rattle.pref_sets.proofs.FastDiagPlan.{fd_plan, fd_part-plan, fd_plan-most}
+use Rattle.pref_sets.proofs.Plans.{AsksAtMost, AsksAtMost-weaker, over-stays}
+use Rattle.pref_sets.proofs.ToldInTurn.{IsToldInTurn-same, told-few, told-done, told-answered, told-once}
 use Rattle.pref_sets.proofs.recursions.fd_behind_ends.Goals as goal
 
 module _ (positions background : List ℕ) where

@@ -1,4 +1,4 @@
-use Rattle.pref_sets.proofs.PositionLaws.{Ascends-from_increasing}
+use Rattle.pref_sets.proofs.AscendingPositions.{Ascends-from_increasing}
 use Rattle.pref_sets.proofs.Renumbered.{fd-renumbered, fd-renumbered_asks, fd-renumbered_finds}
 use Rattle.pref_sets.proofs.recursions.fd_goes_by_places.Goals as goal
 

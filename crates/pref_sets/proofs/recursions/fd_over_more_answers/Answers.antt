@@ -3,9 +3,9 @@ use Rattle.std.proofs.lemmas.List.Elements.{Contains-append_left, Contains-appen
 use Rattle.pref_sets.specs.Plan.{AsksOnly}
 use Rattle.pref_sets.specs.Positions.{union}
 use Rattle.pref_sets.specs.Preferred.{IsWithin}
-use Rattle.pref_sets.proofs.FastDiagLaws.{fd_plan, fd_part-plan, fd_plan-within}
-use Rattle.pref_sets.proofs.PlanLaws.{over-more_asked, over-more_found}
-use Rattle.pref_sets.proofs.PositionLaws.{union-has}
+use Rattle.pref_sets.proofs.FastDiagPlan.{fd_plan, fd_part-plan, fd_plan-within}
+use Rattle.pref_sets.proofs.Plans.{over-more_asked, over-more_found}
+use Rattle.pref_sets.proofs.AscendingPositions.{union-has}
 use Rattle.lists.proofs.Members.{none as contains_none}
 use Rattle.pref_sets.proofs.recursions.fd_over_more_answers.Goals as goal
 

@@ -1,9 +1,9 @@
 use Rattle.std.proofs.Common.{[], length, sym, ◌∙◌}
 use Rattle.pref_sets.specs.Preferred.{IsWithin}
 use Rattle.pref_sets.proofs.QuickXplainAsks.{IsPartOf, IsPartOf-proper, qx_plan-part}
-use Rattle.pref_sets.proofs.QuickXplainLaws.{qx_plan, qx_part-plan, qx_plan-within, qx_plan-ascends}
-use Rattle.pref_sets.proofs.PlanLaws.{AsksOnly-asked, over-new}
-use Rattle.pref_sets.proofs.PositionLaws.{Ascends, Ascends-from_increasing, IsStrictlyIncreasing-from_Ascends}
+use Rattle.pref_sets.proofs.QuickXplainPlan.{qx_plan, qx_part-plan, qx_plan-within, qx_plan-ascends}
+use Rattle.pref_sets.proofs.Plans.{AsksOnly-asked, over-new}
+use Rattle.pref_sets.proofs.AscendingPositions.{Ascends, Ascends-from_increasing, IsStrictlyIncreasing-from_Ascends}
 use Rattle.lists.proofs.Members.{none as contains_none}
 use Rattle.pref_sets.proofs.recursions.qx_asks_new_sets.Goals as goal
 

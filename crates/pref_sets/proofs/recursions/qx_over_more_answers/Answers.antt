@@ -1,8 +1,8 @@
 use Rattle.std.proofs.Common.{ℕ, List, [], length, sym, ◌∙◌}
 use Rattle.pref_sets.specs.Plan.{AsksOnly}
 use Rattle.pref_sets.specs.Preferred.{IsWithin}
-use Rattle.pref_sets.proofs.QuickXplainLaws.{qx_plan, qx_part-plan, qx_plan-within}
-use Rattle.pref_sets.proofs.PlanLaws.{over-more_asked, over-more_found}
+use Rattle.pref_sets.proofs.QuickXplainPlan.{qx_plan, qx_part-plan, qx_plan-within}
+use Rattle.pref_sets.proofs.Plans.{over-more_asked, over-more_found}
 use Rattle.lists.proofs.Members.{none as contains_none}
 use Rattle.pref_sets.proofs.recursions.qx_over_more_answers.Goals as goal
 

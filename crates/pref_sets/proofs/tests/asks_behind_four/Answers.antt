@@ -1,12 +1,10 @@
 use Rattle.std.proofs.Common.{◌≡◌, ℕ, ◌<◌, [], ◌∷◌, refl, ⊎_elim, arith}
 use Rattle.std.specs.Prelude.{Contains}
 use Rattle.std.specs.List.Sorted.{IsStrictlyIncreasing}
-use Rattle.pref_sets.proofs.PositionLaws.{Ascends, IsStrictlyIncreasing-from_Ascends}
+use Rattle.pref_sets.proofs.AscendingPositions.{Ascends, IsStrictlyIncreasing-from_Ascends}
+use Rattle.pref_sets.proofs.TrimmedBehind.{only}
 use Rattle.lists.proofs.Members.{none as contains_none, first_or_later}
 use Rattle.pref_sets.proofs.tests.asks_behind_four.Goals as goal
-
-only : (x y : ℕ) → Contains (x ∷ []) y → x ≡ y
-only x y m = ⊎_elim (λ (same : x ≡ y). same) (λ (later : Contains [] y). absurd (contains_none y later)) (first_or_later x [] y m)
 
 ascends : Ascends (3 ∷ 5 ∷ [])
 ascends = ((λ y m. let same : 5 ≡ y = only 5 y m in omega arith), ((λ y m. absurd (contains_none y m)), tt))

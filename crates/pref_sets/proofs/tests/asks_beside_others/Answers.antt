@@ -1,4 +1,4 @@
-use Rattle.pref_sets.proofs.PlanLaws.{answer_to-told}
+use Rattle.pref_sets.proofs.Plans.{answer_to-told}
 use Rattle.std.proofs.Common.{[], ◌++◌, refl}
 use Rattle.pref_sets.proofs.tests.asks_beside_others.Goals as goal
 

@@ -9,7 +9,7 @@ use Rattle.std.proofs.lemmas.List.Elements.{Contains-append_left, Contains-appen
 use Rattle.std.proofs.lemmas.Bool.{cases_Bool, eqb-true, eqb-false, ltb-true, ltb-false, lt-ltb}
 use Rattle.pref_sets.specs.Positions.{with_position, union, lower_half, upper_half}
 use Rattle.pref_sets.specs.Preferred.{IsWithin, IsDistinct}
-use Rattle.pref_sets.proofs.TrimLaws.{IsWithin-append}
+use Rattle.pref_sets.proofs.TrimmedBehind.{IsWithin-append}
 use Rattle.lists.proofs.Members.{first as contains_first, later as contains_later, none as contains_none, first_or_later}
 
 -- each position is below all later ones
