@@ -6,15 +6,16 @@ use Rattle.std.proofs.lemmas.List.{append-nil}
 use Rattle.std.proofs.lemmas.List.FromFn.{length-range_with_len}
 use Rattle.std.proofs.lemmas.List.Elements.{Contains-append_left, Contains-append_right}
 use Rattle.std.proofs.lemmas.Bool.{eq-eqb, eqb-true}
+use Rattle.std.proofs.lemmas.Bool.Decides.{same_from_decides}
 use Rattle.std.proofs.lemmas.Slice.Eq.{bytes_eq-Decides}
 use Rattle.pref_sets.specs.Answers.{Answer, Next, Ask, Done, same_set, answer_to, by_answer, and_then}
 use Rattle.pref_sets.specs.FastDiag.{fd, fd_part, unless_sat}
 use Rattle.pref_sets.specs.Positions.{union, lower_half, upper_half, range}
 use Rattle.pref_sets.specs.Preferred.{IsWithin}
-use Rattle.pref_sets.proofs.FastDiagLaws.{fd_plan, fd_part-plan, fd_plan-within, fd_plan-ascends}
+use Rattle.pref_sets.proofs.FastDiagPlan.{fd_plan, fd_part-plan, fd_plan-within, fd_plan-ascends}
 use Rattle.pref_sets.specs.Plan.{Plan, found, over, chain}
-use Rattle.pref_sets.proofs.PlanLaws.{over-chain, AsksOnly-found}
-use Rattle.pref_sets.proofs.PositionLaws.{Ascends}
+use Rattle.pref_sets.proofs.Plans.{over-chain, AsksOnly-found}
+use Rattle.pref_sets.proofs.AscendingPositions.{Ascends}
 use Rattle.req_keys.specs.Positions.{RiseWithin}
 use Rattle.fast_diag.specs.inside.Remaining.{unless_all, part_within, part_plan}
 use Rattle.pref_sets.proofs.RisingPositions.{RiseWithin-of_range, Ascends-from_rises, rises-from_Ascends, union-above, lower_half-range, upper_half-range}
@@ -22,21 +23,18 @@ use Rattle.req_keys.proofs.Rises.{RiseWithin-append, members-within, rises-all}
 use Rattle.fast_diag.proofs.PartPlan.{by_halves}
 
 -- the number of kept positions tells whether all of a range is kept
-same_bool : (a b : Bool) → (a ≡ true → b ≡ true) → (b ≡ true → a ≡ true) → a ≡ b
-same_bool true b f g = sym (f refl)
-same_bool false true f g = g refl
-same_bool false false f g = refl
-
 all-kept : (kept lower : List ℕ) (before half : ℕ) → RiseWithin before (before + half) lower → (length (kept ++ lower) == length kept + half) ≡ same_set lower (range before half)
 all-kept kept lower before half h =
     let both : length (kept ++ lower) ≡ length kept + length lower = length-append kept lower in
-    same_bool (length (kept ++ lower) == length kept + half) (same_set lower (range before half))
-    (λ e.
-    let as_many : length (kept ++ lower) ≡ length kept + half = eqb-true (length (kept ++ lower)) (length kept + half) e in
-    (bytes_eq-Decides lower (range before half)).1 (rises-all before half lower h (omega arith)))
-    (λ e.
-    let same : length lower ≡ half = ap length ((bytes_eq-Decides lower (range before half)).0 e) ∙ length-range_with_len (before + 1) half in
-    eq-eqb (length (kept ++ lower)) (length kept + half) (omega arith))
+    same_from_decides (length (kept ++ lower) == length kept + half) (same_set lower (range before half)) (
+      (λ e.
+          let as_many : length (kept ++ lower) ≡ length kept + half = eqb-true (length (kept ++ lower)) (length kept + half) e in
+          rises-all before half lower h (omega arith)),
+      (λ e.
+          let same : length lower ≡ half = ap length e ∙ length-range_with_len (before + 1) half in
+          eq-eqb (length (kept ++ lower)) (length kept + half) (omega arith)),
+    )
+    (bytes_eq-Decides lower (range before half))
 
 -- what is kept of a range rises within it
 found-rises : (count : ℕ) (table : List Answer) (kept : List ℕ) (before size : ℕ) (known : Bool) (set : List ℕ) → fd_part count table (range before size) kept known ≡ Done set → RiseWithin before (before + size) set

@@ -6,7 +6,7 @@ use Rattle.std.specs.Prelude.{◌==◌}
 use Rattle.std.proofs.lemmas.Bool.{eq-eqb}
 use Rattle.pref_sets.specs.Plan.{Plan, found, chain, AsksOnly, AsksOnce}
 use Rattle.pref_sets.specs.Positions.{range}
-use Rattle.pref_sets.proofs.PlanLaws.{AsksOnly-chain}
+use Rattle.pref_sets.proofs.Plans.{AsksOnly-chain}
 use Rattle.pref_sets.proofs.PlansLeft.{AsksOnly-weaker, AsksOnce-chain}
 use Rattle.pref_sets.proofs.RisingPositions.{RiseWithin-of_range, range-parts}
 use Rattle.req_keys.specs.Positions.{RiseWithin}

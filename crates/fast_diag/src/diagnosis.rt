@@ -19,6 +19,7 @@ pub struct FastDiag {
     n: u32,
     /// The answers so far. Each is on the key that was asked then.
     told: Row<bool>,
+    /// What is still to do after them.
     part: Part,
 }
 
@@ -38,6 +39,7 @@ impl Model for FastDiag {
 }
 
 impl FastDiag {
+    /// The state to which nothing is told yet.
     pub fn new(alloc: Global, n: u32) -> Result<FastDiag, AllocError>
         requires some { 1 ≤ n }
         requires most { n ≤ 4096 }
@@ -92,6 +94,7 @@ impl FastDiag {
         Ok(())
     }
 
+    /// An equal state, which goes on by itself.
     pub fn copy(&self) -> Result<FastDiag, AllocError>
         ensures { IfOk result (λ state. state ≡ self.now) }
     {

@@ -62,6 +62,7 @@ impl Part {
         divide(alloc, kept, 0, n, Row::new(alloc))
     }
 
+    /// An equal part.
     pub fn copy(&self, alloc: Global) -> Result<Part, AllocError>
         ensures { IfOk result (λ part. part ≡ self.now) }
     {
@@ -95,6 +96,7 @@ impl Asking {
         divide(alloc, kept, before, length, halves)
     }
 
+    /// The same range, asked behind the same keys.
     pub fn copy(&self, alloc: Global) -> Result<Asking, AllocError>
         ensures { IfOk result (λ asking. asking ≡ self.now) }
     {

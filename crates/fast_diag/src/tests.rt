@@ -1,4 +1,6 @@
 //! Which keys are asked after which answers, worked by hand.
+ghost use Rattle.std.specs.Prelude.{◌≤◌};
+
 use crate::diagnosis::FastDiag;
 use req_keys::Want;
 use std::alloc::{AllocError, Global};
@@ -33,53 +35,59 @@ fn ends(rt: &impl Abort, state: &FastDiag, kept: &[u32]) -> Result<(), AllocErro
     Ok(())
 }
 
-#[test]
-fn one_position(rt: HostRuntime) -> Result<(), AllocError> {
-    let state = FastDiag::new(rt.alloc(), 1)?;
-    ends(&rt, &state, &[])
+/// These keys of n positions are asked in turn and get these answers, and then these positions are kept.
+fn goes(
+    rt: &impl Abort,
+    alloc: Global,
+    n: u32,
+    answers: &[(&[u32], bool)],
+    kept: &[u32],
+) -> Result<(), AllocError>
+    requires some { 1 ≤ n }
+    requires most { n ≤ 4096 }
+{
+    let mut state = FastDiag::new(alloc, n)?;
+    for (asked, sat) in answers {
+        answer(rt, &mut state, asked, *sat)?;
+    }
+    ends(rt, &state, kept)
 }
 
+/// One position; 1 and 2 don't go together; 1 and 3, and 2 and 4, don't; three of four do; of 1, 2 and 3 only one does;
+/// only all three together don't.
 #[test]
-fn phone(rt: HostRuntime) -> Result<(), AllocError> {
-    let mut state = FastDiag::new(rt.alloc(), 3)?;
-    answer(&rt, &mut state, &[1], true)?;
-    answer(&rt, &mut state, &[1, 2], false)?;
-    answer(&rt, &mut state, &[1, 3], true)?;
-    ends(&rt, &state, &[1, 3])
-}
-
-#[test]
-fn two_opposite_pairs(rt: HostRuntime) -> Result<(), AllocError> {
-    let mut state = FastDiag::new(rt.alloc(), 4)?;
-    answer(&rt, &mut state, &[1, 2], true)?;
-    answer(&rt, &mut state, &[1, 2, 3], false)?;
-    answer(&rt, &mut state, &[1, 2, 4], false)?;
-    ends(&rt, &state, &[1, 2])
-}
-
-#[test]
-fn three_of_four(rt: HostRuntime) -> Result<(), AllocError> {
-    let mut state = FastDiag::new(rt.alloc(), 4)?;
-    answer(&rt, &mut state, &[1, 2], true)?;
-    answer(&rt, &mut state, &[1, 2, 3], true)?;
-    ends(&rt, &state, &[1, 2, 3])
-}
-
-#[test]
-fn one_of_three(rt: HostRuntime) -> Result<(), AllocError> {
-    let mut state = FastDiag::new(rt.alloc(), 3)?;
-    answer(&rt, &mut state, &[1], true)?;
-    answer(&rt, &mut state, &[1, 2], false)?;
-    answer(&rt, &mut state, &[1, 3], false)?;
-    ends(&rt, &state, &[1])
-}
-
-#[test]
-fn only_together(rt: HostRuntime) -> Result<(), AllocError> {
-    let mut state = FastDiag::new(rt.alloc(), 3)?;
-    answer(&rt, &mut state, &[1], true)?;
-    answer(&rt, &mut state, &[1, 2], true)?;
-    ends(&rt, &state, &[1, 2])
+fn goes_as_by_hand(rt: HostRuntime) -> Result<(), AllocError> {
+    let alloc = rt.alloc();
+    goes(&rt, alloc, 1, &[], &[])?;
+    goes(
+        &rt,
+        alloc,
+        3,
+        &[(&[1], true), (&[1, 2], false), (&[1, 3], true)],
+        &[1, 3],
+    )?;
+    goes(
+        &rt,
+        alloc,
+        4,
+        &[(&[1, 2], true), (&[1, 2, 3], false), (&[1, 2, 4], false)],
+        &[1, 2],
+    )?;
+    goes(
+        &rt,
+        alloc,
+        4,
+        &[(&[1, 2], true), (&[1, 2, 3], true)],
+        &[1, 2, 3],
+    )?;
+    goes(
+        &rt,
+        alloc,
+        3,
+        &[(&[1], true), (&[1, 2], false), (&[1, 3], false)],
+        &[1],
+    )?;
+    goes(&rt, alloc, 3, &[(&[1], true), (&[1, 2], true)], &[1, 2])
 }
 
 /// Nothing of the lower half is kept, and a part of the upper one; a copy in the middle goes on as the state does.

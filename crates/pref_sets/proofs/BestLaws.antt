@@ -10,7 +10,7 @@ use Rattle.pref_sets.specs.Trimmed.{IsTrimmed, without_item}
 use Rattle.pref_sets.specs.inside.TrimmedBehind.{IsTrimmedBehind}
 use Rattle.pref_sets.specs.Preferred.{IsWithin, IsDistinct}
 use Rattle.pref_sets.specs.Properties.{PassesToFewer, PassesToMore}
-use Rattle.pref_sets.proofs.TrimLaws.{IsWithin-append, IsTrimmedBehind-within, IsTrimmedBehind-keeps, without_item-middle, only}
+use Rattle.pref_sets.proofs.TrimmedBehind.{IsWithin-append, IsTrimmedBehind-within, IsTrimmedBehind-keeps, without_item-middle, only}
 use Rattle.lists.proofs.Members.{first as contains_first, later as contains_later, none as contains_none, first_or_later}
 
 -- the set that the fold starts with stays in its result

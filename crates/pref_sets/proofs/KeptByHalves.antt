@@ -10,11 +10,11 @@ use Rattle.pref_sets.specs.Kept.{IsKept, with_item}
 use Rattle.pref_sets.specs.Positions.{union, lower_half, upper_half}
 use Rattle.pref_sets.specs.Preferred.{IsWithin}
 use Rattle.pref_sets.specs.Properties.{PassesToFewer}
-use Rattle.pref_sets.proofs.TrimLaws.{IsGreedy-append, IsWithin-append}
+use Rattle.pref_sets.proofs.TrimmedBehind.{IsGreedy-append, IsWithin-append}
 use Rattle.pref_sets.specs.Plan.{Plan, found, over, chain}
-use Rattle.pref_sets.proofs.PlanLaws.{Finds, Finds-chain, Finds-over}
-use Rattle.pref_sets.proofs.PositionLaws.{HaveSame, union-same, union-all, Ascends, Ascends-apart, AreBelow, union-within, union-has, union-ascends, union-append, halves-join, halves-length}
-use Rattle.pref_sets.proofs.FastDiagLaws.{sat_plan, fd_plan, fd_part-plan}
+use Rattle.pref_sets.proofs.Plans.{Finds, Finds-chain, Finds-over}
+use Rattle.pref_sets.proofs.AscendingPositions.{HaveSame, union-same, union-all, Ascends, Ascends-apart, AreBelow, union-within, union-has, union-ascends, union-append, halves-join, halves-length}
+use Rattle.pref_sets.proofs.FastDiagPlan.{sat_plan, fd_plan, fd_part-plan}
 use Rattle.lists.proofs.Members.{none as contains_none}
 
 module _ (P : List ℕ → Type 0) (fewer : PassesToFewer P) where

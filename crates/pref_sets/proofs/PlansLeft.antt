@@ -7,8 +7,8 @@ use Rattle.std.proofs.lemmas.Bool.{cases_Bool}
 use Rattle.std.proofs.lemmas.Slice.Eq.{bytes_eq-Decides}
 use Rattle.pref_sets.specs.Answers.{Answer, Next, Ask, Done, answer_to, with_answer, told_in_turn}
 use Rattle.pref_sets.specs.Plan.{Plan, found, asks, over, chain, AsksOnly, AsksOnce, IsLeft}
-use Rattle.pref_sets.proofs.PlanLaws.{AsksOnly-chain, over-known, answer_to-beyond, answer_to-first}
-use Rattle.pref_sets.proofs.TurnLaws.{told-push}
+use Rattle.pref_sets.proofs.Plans.{AsksOnly-chain, over-known, answer_to-beyond, answer_to-first}
+use Rattle.pref_sets.proofs.ToldInTurn.{told-push}
 
 pub asks-same : (set : List ℕ) (f g : Bool → Plan) → ((sat : Bool) → f sat ≡ g sat) → asks set f ≡ asks set g
 asks-same set f g h = λ i. asks set (λ sat. h sat i)
@@ -31,6 +31,10 @@ AsksOnly-weaker A B R S (asks set go) f g h = (f set h.0, λ sat. AsksOnly-weake
 pub AsksOnly-both : (A B R S : List ℕ → Type 0) (plan : Plan) → AsksOnly A R plan → AsksOnly B S plan → AsksOnly (λ set. A set × B set) R plan
 AsksOnly-both A B R S (found set) h k = h
 AsksOnly-both A B R S (asks set go) h k = ((h.0, k.0), λ sat. AsksOnly-both A B R S (go sat) (h.1 sat) (k.1 sat))
+
+pub AsksOnly-and : (A B R S : List ℕ → Type 0) (plan : Plan) → AsksOnly A R plan → AsksOnly B S plan → AsksOnly (λ set. A set × B set) (λ set. R set × S set) plan
+AsksOnly-and A B R S (found set) h k = (h, k)
+AsksOnly-and A B R S (asks set go) h k = ((h.0, k.0), λ sat. AsksOnly-and A B R S (go sat) (h.1 sat) (k.1 sat))
 
 pub AsksOnly-any : (A : List ℕ → Type 0) (plan : Plan) → ((set : List ℕ) → A set) → AsksOnly A (λ set. Unit {0}) plan
 AsksOnly-any A (found set) h = tt

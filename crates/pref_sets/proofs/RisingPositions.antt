@@ -4,7 +4,7 @@ use Rattle.std.specs.Prelude.{Contains}
 use Rattle.std.specs.List.{range_with_len}
 use Rattle.std.proofs.lemmas.List.FromFn.{length-range_with_len}
 use Rattle.pref_sets.specs.Positions.{union, lower_half, upper_half, range}
-use Rattle.pref_sets.proofs.PositionLaws.{Ascends, union-append}
+use Rattle.pref_sets.proofs.AscendingPositions.{Ascends, union-append}
 use Rattle.req_keys.specs.Positions.{RiseWithin}
 use Rattle.req_keys.proofs.PositionsLaws.{RiseWithin-range}
 use Rattle.req_keys.proofs.Rises.{members-within}

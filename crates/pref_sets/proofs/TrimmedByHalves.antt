@@ -7,11 +7,11 @@ use Rattle.pref_sets.specs.Positions.{union, lower_half, upper_half}
 use Rattle.pref_sets.specs.Trimmed.{IsTrimmed}
 use Rattle.pref_sets.specs.inside.TrimmedBehind.{IsTrimmedBehind}
 use Rattle.pref_sets.specs.Properties.{PassesToFewer, PassesToMore}
-use Rattle.pref_sets.proofs.TrimLaws.{IsTrimmedBehind-none, IsTrimmedBehind-one, IsTrimmedBehind-append, IsTrimmedBehind-within, IsTrimmed-from_behind}
+use Rattle.pref_sets.proofs.TrimmedBehind.{IsTrimmedBehind-none, IsTrimmedBehind-one, IsTrimmedBehind-append, IsTrimmedBehind-within, IsTrimmed-from_behind}
 use Rattle.pref_sets.specs.Plan.{Plan, found, over, chain}
-use Rattle.pref_sets.proofs.PlanLaws.{Finds, Finds-chain, Finds-over}
-use Rattle.pref_sets.proofs.PositionLaws.{HaveSame, union-same, Ascends, Ascends-apart, AreBelow, IsDistinct-from_Ascends, union-ascends, union-append, halves-join, halves-length}
-use Rattle.pref_sets.proofs.QuickXplainLaws.{unsat_plan, qx_plan, qx_part-plan}
+use Rattle.pref_sets.proofs.Plans.{Finds, Finds-chain, Finds-over}
+use Rattle.pref_sets.proofs.AscendingPositions.{HaveSame, union-same, Ascends, Ascends-apart, AreBelow, IsDistinct-from_Ascends, union-ascends, union-append, halves-join, halves-length}
+use Rattle.pref_sets.proofs.QuickXplainPlan.{unsat_plan, qx_plan, qx_part-plan}
 
 module _ (P : List ℕ → Type 0) (fewer : PassesToFewer P) where
   -- not to have the property

@@ -10,5 +10,6 @@ pub mod Preferred
 pub mod Properties
 pub mod QuickXplain
 pub mod RecursionExamples
+pub mod Renumbering
 pub mod Trimmed
 pub mod inside

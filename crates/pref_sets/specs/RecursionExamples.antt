@@ -4,8 +4,9 @@ use Rattle.std.specs.Prelude.{◌≡◌, ℕ, Bool, true, false, not, ◌&&◌, 
 use Rattle.std.specs.List.{list_any}
 use Rattle.pref_sets.specs.Positions.{union, lower_half, upper_half}
 use Rattle.pref_sets.specs.Answers.{Answer, Next, Ask, Done, answer_to}
-use Rattle.pref_sets.specs.FastDiag.{fd}
+use Rattle.pref_sets.specs.FastDiag.{fd, fd_behind}
 use Rattle.pref_sets.specs.QuickXplain.{qx}
+use Rattle.pref_sets.specs.Renumbering.{at_places, next_at_places}
 
 abbrev sat : List ℕ → Answer
 sat set = record { set = set; sat = true }
@@ -182,3 +183,19 @@ other_positions = (refl, refl)
 pub not_closed :
     fd (1 ∷ 2 ∷ 3 ∷ []) (sat (1 ∷ 2 ∷ 3 ∷ []) ∷ sat (1 ∷ []) ∷ unsat (1 ∷ 2 ∷ []) ∷ sat (1 ∷ 3 ∷ []) ∷ []) ≡ Done (1 ∷ 3 ∷ [])
 not_closed = refl
+
+-- places of positions 3, 5 and 8, and what is asked for them behind 4
+pub places-two : at_places (3 ∷ 5 ∷ 8 ∷ []) (1 ∷ 3 ∷ []) ≡ 3 ∷ 8 ∷ []
+places-two = refl
+
+pub places-none : at_places (3 ∷ 5 ∷ 8 ∷ []) [] ≡ []
+places-none = refl
+
+pub places-asked : next_at_places (3 ∷ 5 ∷ 8 ∷ []) (4 ∷ []) (Ask (1 ∷ 3 ∷ [])) ≡ Ask (3 ∷ 4 ∷ 8 ∷ [])
+places-asked = refl
+
+-- behind 4 the positions 3, 5 and 8 are gone through as 1, 2 and 3 are
+pub places-behind :
+    fd_behind (sat (3 ∷ 4 ∷ []) ∷ unsat (3 ∷ 4 ∷ 5 ∷ []) ∷ []) (3 ∷ 5 ∷ 8 ∷ []) (4 ∷ []) true
+    ≡ next_at_places (3 ∷ 5 ∷ 8 ∷ []) (4 ∷ []) (fd (1 ∷ 2 ∷ 3 ∷ []) (sat (1 ∷ []) ∷ unsat (1 ∷ 2 ∷ []) ∷ []))
+places-behind = refl

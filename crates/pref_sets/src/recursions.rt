@@ -1,5 +1,6 @@
 //! What FastDiag and QuickXplain over a table of answers find, which sets they ask, and that they end.
 ghost use Rattle.std.specs.Prelude.{◌≡◌, ℕ, ◌*◌, ◌-◌, ◌≤◌, Bool, true, false, MatchBool, Some, None, List, [], ◌∷◌, ◌++◌, length, All, Contains};
+ghost use Rattle.std.specs.List.{range_with_len};
 ghost use Rattle.std.specs.List.Sorted.{IsStrictlyIncreasing};
 ghost use Rattle.pref_sets.specs.Answers.{Answer, AgreesWith, IsClosed, IsWithinSat, IsToldInTurn, Next, Ask, Done, answer_to, and_then, same_set};
 ghost use Rattle.pref_sets.specs.FastDiag.{fd, fd_behind, fd_part, unless_sat};
@@ -8,6 +9,7 @@ ghost use Rattle.pref_sets.specs.Positions.{union, lower_half, upper_half};
 ghost use Rattle.pref_sets.specs.Preferred.{AgreeOn, IsWithin, IsPreferredConflictTo};
 ghost use Rattle.pref_sets.specs.Properties.{PassesToFewer};
 ghost use Rattle.pref_sets.specs.QuickXplain.{qx, qx_behind, qx_part, unless_unsat};
+ghost use Rattle.pref_sets.specs.Renumbering.{at_places, AnswersByPlaces, AnswersSomeByPlaces, next_at_places};
 ghost use Rattle.pref_sets.specs.Trimmed.{IsTrimmed};
 
 use crate::laws::Property;
@@ -103,7 +105,8 @@ pub fn qx_of_closed_table()
         (other : List ℕ) → IsWithin other left → ¬ IsWithinSat table other → IsWithin left other }
 {}
 
-/// FastDiag asks only sets of its positions, and none that the table has.
+/// FastDiag asks only sets of its positions, and none that the table has. Of ascending positions it asks neither the
+/// empty set nor all.
 pub fn fd_asks_new_sets()
     ensures new { (positions asked : List ℕ) (table : List Answer) → fd positions table ≡ Ask asked →
         answer_to table asked ≡ None }
@@ -111,9 +114,28 @@ pub fn fd_asks_new_sets()
         IsWithin asked positions }
     ensures ascending { (positions asked : List ℕ) (table : List Answer) → IsStrictlyIncreasing positions →
         fd positions table ≡ Ask asked → IsStrictlyIncreasing asked }
+    ensures part { (positions asked : List ℕ) (table : List Answer) → IsStrictlyIncreasing positions →
+        fd positions table ≡ Ask asked → (¬ asked ≡ []) × (¬ asked ≡ positions) }
 {}
 
-/// QuickXplain asks only sets of its positions, and none that the table has.
+/// The same behind a background, which is asked with some of the positions. Where all positions with it are known to be
+/// Unsat, and it has none of them, it is asked neither with none of the positions nor with all.
+pub fn fd_behind_asks_new_sets()
+    ensures new { (positions background asked : List ℕ) (known : Bool) (table : List Answer) →
+        fd_behind table positions background known ≡ Ask asked → answer_to table asked ≡ None }
+    ensures within { (positions background asked : List ℕ) (known : Bool) (table : List Answer) →
+        fd_behind table positions background known ≡ Ask asked → IsWithin asked (union background positions) }
+    ensures ascending { (positions background asked : List ℕ) (known : Bool) (table : List Answer) →
+        IsStrictlyIncreasing positions → fd_behind table positions background known ≡ Ask asked →
+        IsStrictlyIncreasing asked }
+    ensures part { (positions background asked : List ℕ) (table : List Answer) → IsStrictlyIncreasing positions →
+        ((position : ℕ) → Contains background position → ¬ Contains positions position) →
+        fd_behind table positions background true ≡ Ask asked →
+        (¬ IsWithin asked background) × (¬ IsWithin positions asked) }
+{}
+
+/// QuickXplain asks only sets of its positions, and none that the table has. Of ascending positions it asks neither the
+/// empty set nor all.
 pub fn qx_asks_new_sets()
     ensures new { (positions asked : List ℕ) (table : List Answer) → qx positions table ≡ Ask asked →
         answer_to table asked ≡ None }
@@ -121,6 +143,8 @@ pub fn qx_asks_new_sets()
         IsWithin asked positions }
     ensures ascending { (positions asked : List ℕ) (table : List Answer) → IsStrictlyIncreasing positions →
         qx positions table ≡ Ask asked → IsStrictlyIncreasing asked }
+    ensures part { (positions asked : List ℕ) (table : List Answer) → IsStrictlyIncreasing positions →
+        qx positions table ≡ Ask asked → (¬ asked ≡ []) × (¬ asked ≡ positions) }
 {}
 
 /// FastDiag ends: over m positions at most 2 * m - 2 sets are asked one after the other, whatever the table at the
@@ -142,6 +166,29 @@ pub fn fd_ends()
         All (λ answer. answer.sat ≡ test answer.set) told × (fd positions (start ++ told) ≡ Done kept) }
 {}
 
+/// FastDiag behind a background ends in the same way, where all positions with it are known to be Unsat.
+pub fn fd_behind_ends()
+    ensures few { (positions background : List ℕ) (start told : List Answer) →
+        IsToldInTurn (λ table. fd_behind table positions background true) start told →
+        length told ≤ 2 * length positions - 2 }
+    ensures done { (positions background : List ℕ) (start told : List Answer) →
+        IsToldInTurn (λ table. fd_behind table positions background true) start told →
+        2 * length positions - 2 ≤ length told →
+        (kept : List ℕ) × (fd_behind (start ++ told) positions background true ≡ Done kept) }
+    ensures stays { (positions background kept : List ℕ) (table more : List Answer) →
+        fd_behind table positions background true ≡ Done kept →
+        fd_behind (table ++ more) positions background true ≡ Done kept }
+    ensures once { (positions background : List ℕ) (start told : List Answer) →
+        IsToldInTurn (λ table. fd_behind table positions background true) start told →
+        (before : List Answer) (answer : Answer) (after : List Answer) →
+        told ≡ before ++ answer ∷ after → answer_to (start ++ before) answer.set ≡ None }
+    ensures answered { (positions background : List ℕ) (start : List Answer) (test : List ℕ → Bool) →
+        (told : List Answer) × (kept : List ℕ) ×
+        IsToldInTurn (λ table. fd_behind table positions background true) start told ×
+        All (λ answer. answer.sat ≡ test answer.set) told ×
+        (fd_behind (start ++ told) positions background true ≡ Done kept) }
+{}
+
 /// QuickXplain ends: over m positions at most 2 * m - 2 sets are asked one after the other, whatever the table at the
 /// start and the answers, and none of them twice. After so many it is done, and stays so when more is told; and for
 /// each test that answers there is such a table.
@@ -159,6 +206,60 @@ pub fn qx_ends()
     ensures answered { (positions : List ℕ) (start : List Answer) (test : List ℕ → Bool) →
         (told : List Answer) × (left : List ℕ) × IsToldInTurn (qx positions) start told ×
         All (λ answer. answer.sat ≡ test answer.set) told × (qx positions (start ++ told) ≡ Done left) }
+{}
+
+/// FastDiag over another table that answers what this one does, on sets of the positions: it asks the same set, if that
+/// has no answer there either, and finds the same.
+pub fn fd_over_more_answers()
+    ensures asks { (positions asked : List ℕ) (table other : List Answer) →
+        ((set : List ℕ) (sat : Bool) → IsWithin set positions →
+        answer_to table set ≡ Some sat → answer_to other set ≡ Some sat) →
+        fd positions table ≡ Ask asked → answer_to other asked ≡ None → fd positions other ≡ Ask asked }
+    ensures finds { (positions kept : List ℕ) (table other : List Answer) →
+        ((set : List ℕ) (sat : Bool) → IsWithin set positions →
+        answer_to table set ≡ Some sat → answer_to other set ≡ Some sat) →
+        fd positions table ≡ Done kept → fd positions other ≡ Done kept }
+    ensures asks_behind { (positions background asked : List ℕ) (known : Bool) (table other : List Answer) →
+        ((set : List ℕ) (sat : Bool) → IsWithin set (union background positions) →
+        answer_to table set ≡ Some sat → answer_to other set ≡ Some sat) →
+        fd_behind table positions background known ≡ Ask asked → answer_to other asked ≡ None →
+        fd_behind other positions background known ≡ Ask asked }
+    ensures finds_behind { (positions background kept : List ℕ) (known : Bool) (table other : List Answer) →
+        ((set : List ℕ) (sat : Bool) → IsWithin set (union background positions) →
+        answer_to table set ≡ Some sat → answer_to other set ≡ Some sat) →
+        fd_behind table positions background known ≡ Done kept → fd_behind other positions background known ≡ Done kept }
+{}
+
+/// QuickXplain over another table that answers what this one does, on sets of the positions: it asks the same set, if
+/// that has no answer there either, and finds the same.
+pub fn qx_over_more_answers()
+    ensures asks { (positions asked : List ℕ) (table other : List Answer) →
+        ((set : List ℕ) (sat : Bool) → IsWithin set positions →
+        answer_to table set ≡ Some sat → answer_to other set ≡ Some sat) →
+        qx positions table ≡ Ask asked → answer_to other asked ≡ None → qx positions other ≡ Ask asked }
+    ensures finds { (positions left : List ℕ) (table other : List Answer) →
+        ((set : List ℕ) (sat : Bool) → IsWithin set positions →
+        answer_to table set ≡ Some sat → answer_to other set ≡ Some sat) →
+        qx positions table ≡ Done left → qx positions other ≡ Done left }
+{}
+
+/// FastDiag of ascending positions behind a background is FastDiag over their places 1, 2, .., m and a table that answers
+/// by places. What the one asks, the other asks of the positions there with the background; what the one keeps is kept.
+/// Where the table has more answers, it asks the same while it has none on that set, and keeps the same.
+pub fn fd_goes_by_places()
+    ensures same { (positions background : List ℕ) (table small : List Answer) → IsStrictlyIncreasing positions →
+        AnswersByPlaces positions background table small →
+        fd_behind table positions background true ≡
+        next_at_places positions background (fd (range_with_len 1 (length positions)) small) }
+    ensures asks { (positions background places : List ℕ) (table small : List Answer) →
+        IsStrictlyIncreasing positions → AnswersSomeByPlaces positions background table small →
+        fd (range_with_len 1 (length positions)) small ≡ Ask places →
+        answer_to table (union background (at_places positions places)) ≡ None →
+        fd_behind table positions background true ≡ Ask (union background (at_places positions places)) }
+    ensures finds { (positions background places : List ℕ) (table small : List Answer) →
+        IsStrictlyIncreasing positions → AnswersSomeByPlaces positions background table small →
+        fd (range_with_len 1 (length positions)) small ≡ Done places →
+        fd_behind table positions background true ≡ Done (at_places positions places) }
 {}
 
 /// The number of positions is count enough for FastDiag: a greater count changes nothing, and the recursion goes by

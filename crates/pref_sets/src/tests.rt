@@ -1,17 +1,21 @@
 //! A test of sets that holds a `&mut`, as a caller's may, and counts how often it is asked.
-ghost use Rattle.std.specs.Prelude.{◌≡◌, ◌↔◌, ◌⊎◌, ◌≤◌, ℕ, List, [], ◌∷◌, All, Contains, IsTrue, IfOk};
+ghost use Rattle.std.specs.Prelude.{◌≡◌, ◌↔◌, ◌⊎◌, ◌≤◌, ℕ, List, [], ◌∷◌, ◌++◌, length, true, None, All, Contains, IsTrue, IfOk};
 ghost use Rattle.std.proofs.Common.{refl, sym, ◌∙◌, inl, inr, ⊎_elim};
 ghost use Rattle.std.proofs.lemmas.List.Elements.{All-weaker};
 ghost use Rattle.std.specs.List.Sorted.{IsStrictlyIncreasing};
-ghost use Rattle.pref_sets.specs.Answers.{Answer, AgreesWith, Done};
-ghost use Rattle.pref_sets.specs.FastDiag.{fd};
+ghost use Rattle.pref_sets.specs.Answers.{Answer, AgreesWith, IsToldInTurn, Ask, Done, answer_to};
+ghost use Rattle.pref_sets.specs.FastDiag.{fd, fd_behind};
 ghost use Rattle.pref_sets.specs.Kept.{IsKept};
-ghost use Rattle.pref_sets.specs.Preferred.{IsDistinct, IsWithin};
+ghost use Rattle.pref_sets.specs.Preferred.{IsDistinct, IsPreferredConflictTo, IsWithin};
 ghost use Rattle.pref_sets.specs.QuickXplain.{qx};
 ghost use Rattle.pref_sets.specs.Trimmed.{IsTrimmed};
 
 use crate::laws::{Property, kept_set_is_maximal, trimmed_set_is_minimal};
-use crate::recursions::{fd_is_kept, qx_is_trimmed, right_answers_agree};
+use crate::recursions::{
+    fd_asks_new_sets, fd_behind_asks_new_sets, fd_behind_ends, fd_goes_by_places, fd_is_kept,
+    fd_over_more_answers, qx_asks_new_sets, qx_is_trimmed, qx_over_more_answers,
+    right_answers_agree,
+};
 use crate::trimming::{MonotoneTest, trim};
 use lists::Numbers;
 use std::alloc::{AllocError, Global};
@@ -151,10 +155,51 @@ fn recursions_of(apart: &Apart)
         qx (apart.now.first ∷ apart.now.second ∷ []) table ≡ Done left →
         IsTrimmed (λ set. ¬ (¬ (Contains set apart.now.first × Contains set apart.now.second))) (apart.now.first ∷ apart.now.second ∷ []) left }
     ensures told { AgreesWith (λ set. ¬ (Contains set apart.now.first × Contains set apart.now.second)) [] }
+    ensures lacks { (kept : List ℕ) (table : List Answer) →
+        IsStrictlyIncreasing (apart.now.first ∷ apart.now.second ∷ []) →
+        AgreesWith (λ set. ¬ (Contains set apart.now.first × Contains set apart.now.second)) table →
+        fd (apart.now.first ∷ apart.now.second ∷ []) table ≡ Done kept →
+        ¬ (Contains kept apart.now.first × Contains kept apart.now.second) }
+    ensures preferred { (left other : List ℕ) (table : List Answer) →
+        IsStrictlyIncreasing (apart.now.first ∷ apart.now.second ∷ []) →
+        AgreesWith (λ set. ¬ (Contains set apart.now.first × Contains set apart.now.second)) table →
+        qx (apart.now.first ∷ apart.now.second ∷ []) table ≡ Done left →
+        Contains other apart.now.first × Contains other apart.now.second →
+        IsWithin other (apart.now.first ∷ apart.now.second ∷ []) →
+        ¬ IsPreferredConflictTo (apart.now.first ∷ apart.now.second ∷ []) other left }
 {
     fd_is_kept::<Apart>();
     qx_is_trimmed::<Apart>();
     right_answers_agree::<Apart>();
+}
+
+/// Answers that other parts are told don't change what a recursion asks: neither ever asks what is known at its start,
+/// and one that asks goes on asking the same.
+fn asks_beside_others()
+    ensures fd { (positions asked : List ℕ) (told more : List Answer) → fd positions told ≡ Ask asked →
+        answer_to (told ++ more) asked ≡ None → fd positions (told ++ more) ≡ Ask asked }
+    ensures qx { (positions left : List ℕ) (told more : List Answer) → qx positions told ≡ Done left →
+        qx positions (told ++ more) ≡ Done left }
+    ensures never { (positions : List ℕ) (table : List Answer) → IsStrictlyIncreasing positions →
+        (¬ fd positions table ≡ Ask []) × (¬ qx positions table ≡ Ask positions) }
+{
+    fd_over_more_answers();
+    qx_over_more_answers();
+    fd_asks_new_sets();
+    qx_asks_new_sets();
+}
+
+/// FastDiag of the positions 3 and 5 behind 4: it asks 3 with 4 first, and at most two sets, each with 3 or 5.
+fn asks_behind_four()
+    ensures first { (table : List Answer) → answer_to table (3 ∷ 4 ∷ []) ≡ None →
+        fd_behind table (3 ∷ 5 ∷ []) (4 ∷ []) true ≡ Ask (3 ∷ 4 ∷ []) }
+    ensures two { (start told : List Answer) →
+        IsToldInTurn (λ table. fd_behind table (3 ∷ 5 ∷ []) (4 ∷ []) true) start told → length told ≤ 2 }
+    ensures some { (table : List Answer) → ¬ fd_behind table (3 ∷ 5 ∷ []) (4 ∷ []) true ≡ Ask (4 ∷ []) }
+{
+    fd_goes_by_places();
+    fd_behind_ends();
+    fd_behind_asks_new_sets();
 }
 
 /// The kept set of items that don't go together lacks one of them, and a set that lacks one and has all of it has no

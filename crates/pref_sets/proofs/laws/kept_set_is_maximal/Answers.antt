@@ -1,6 +1,6 @@
-use Rattle.pref_sets.proofs.PreferredLaws.{IsKept-preferred}
+use Rattle.pref_sets.proofs.NonePreferred.{IsKept-preferred}
 use Rattle.pref_sets.proofs.BestLaws.{IsKept-holds, IsKept-maximal}
-use Rattle.pref_sets.proofs.OnlyLaws.{IsKept-only}
+use Rattle.pref_sets.proofs.OnlyPreferred.{IsKept-only}
 use Rattle.pref_sets.proofs.laws.kept_set_is_maximal.Goals as goal
 
 pub returns-clause-holds : goal.returns-clause-holds

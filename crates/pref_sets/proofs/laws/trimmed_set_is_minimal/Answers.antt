@@ -1,6 +1,6 @@
-use Rattle.pref_sets.proofs.PreferredLaws.{IsTrimmed-preferred}
+use Rattle.pref_sets.proofs.NonePreferred.{IsTrimmed-preferred}
 use Rattle.pref_sets.proofs.BestLaws.{IsTrimmed-holds, IsTrimmed-minimal}
-use Rattle.pref_sets.proofs.OnlyLaws.{IsTrimmed-only}
+use Rattle.pref_sets.proofs.OnlyPreferred.{IsTrimmed-only}
 use Rattle.pref_sets.proofs.laws.trimmed_set_is_minimal.Goals as goal
 
 pub returns-clause-holds : goal.returns-clause-holds

@@ -1,4 +1,4 @@
-use Rattle.pref_sets.proofs.TurnLaws.{IsToldInTurn-none, IsToldInTurn-push}
+use Rattle.pref_sets.proofs.ToldInTurn.{IsToldInTurn-none, IsToldInTurn-push}
 use Rattle.pref_sets.proofs.recursions.answers_in_turn.Goals as goal
 
 pub returns-clause-none : goal.returns-clause-none

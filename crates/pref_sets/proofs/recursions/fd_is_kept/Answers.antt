@@ -2,11 +2,11 @@ use Rattle.std.proofs.Common.{[], true, length, sym, ◌∙◌}
 use Rattle.std.proofs.lemmas.List.{append-nil}
 use Rattle.pref_sets.specs.Positions.{union}
 use Rattle.pref_sets.specs.Preferred.{IsWithin}
-use Rattle.pref_sets.proofs.FastDiagLaws.{fd_plan, fd_part-plan, fd_plan-within, fd_plan-ascends}
+use Rattle.pref_sets.proofs.FastDiagPlan.{fd_plan, fd_part-plan, fd_plan-within, fd_plan-ascends}
 use Rattle.pref_sets.proofs.BestLaws.{IsKept-holds, IsKept-maximal}
 use Rattle.pref_sets.proofs.KeptByHalves.{fd-kept, fd_behind-kept, passes-behind}
-use Rattle.pref_sets.proofs.PlanLaws.{AsksOnly-found}
-use Rattle.pref_sets.proofs.PositionLaws.{union-within, Ascends, Ascends-from_increasing, IsStrictlyIncreasing-from_Ascends}
+use Rattle.pref_sets.proofs.Plans.{AsksOnly-found}
+use Rattle.pref_sets.proofs.AscendingPositions.{union-within, Ascends, Ascends-from_increasing, IsStrictlyIncreasing-from_Ascends}
 use Rattle.lists.proofs.Members.{none as contains_none}
 use Rattle.pref_sets.proofs.recursions.fd_is_kept.Goals as goal
 

@@ -1,7 +1,7 @@
 use Rattle.pref_sets.specs.Answers.{IsWithinSat}
 use Rattle.pref_sets.proofs.ClosedTables.{AgreesWith-closed, IsWithinSat-fewer, IsWithinSat-unsat}
 use Rattle.pref_sets.proofs.KeptByHalves.{fd-kept}
-use Rattle.pref_sets.proofs.PositionLaws.{Ascends-from_increasing}
+use Rattle.pref_sets.proofs.AscendingPositions.{Ascends-from_increasing}
 use Rattle.pref_sets.proofs.recursions.fd_of_closed_table.Goals as goal
 
 pub returns : goal.returns

@@ -1,8 +1,9 @@
 use Rattle.std.proofs.Common.{[], length, sym, ◌∙◌}
 use Rattle.pref_sets.specs.Preferred.{IsWithin}
-use Rattle.pref_sets.proofs.QuickXplainLaws.{qx_plan, qx_part-plan, qx_plan-within, qx_plan-ascends}
-use Rattle.pref_sets.proofs.PlanLaws.{AsksOnly-asked, over-new}
-use Rattle.pref_sets.proofs.PositionLaws.{Ascends, Ascends-from_increasing, IsStrictlyIncreasing-from_Ascends}
+use Rattle.pref_sets.proofs.QuickXplainAsks.{IsPartOf, IsPartOf-proper, qx_plan-part}
+use Rattle.pref_sets.proofs.QuickXplainPlan.{qx_plan, qx_part-plan, qx_plan-within, qx_plan-ascends}
+use Rattle.pref_sets.proofs.Plans.{AsksOnly-asked, over-new}
+use Rattle.pref_sets.proofs.AscendingPositions.{Ascends, Ascends-from_increasing, IsStrictlyIncreasing-from_Ascends}
 use Rattle.lists.proofs.Members.{none as contains_none}
 use Rattle.pref_sets.proofs.recursions.qx_asks_new_sets.Goals as goal
 
@@ -21,4 +22,11 @@ returns-clause-ascending c = λ positions asked table rises e.
     IsStrictlyIncreasing-from_Ascends asked
     (AsksOnly-asked Ascends Ascends table (qx_plan (length positions) [] [] positions)
     (qx_plan-ascends (length positions) [] [] positions tt (Ascends-from_increasing positions rises))
+    asked (sym (qx_part-plan (length positions) table [] [] positions) ∙ e))
+
+pub returns-clause-part : goal.returns-clause-part
+returns-clause-part c = λ positions asked table rises e.
+    IsPartOf-proper positions asked
+    (AsksOnly-asked (IsPartOf positions) (λ set. Unit {0}) table (qx_plan (length positions) [] [] positions)
+    (qx_plan-part (length positions) [] [] positions (λ i m. m) (Ascends-from_increasing positions rises) (λ i m n. contains_none i m))
     asked (sym (qx_part-plan (length positions) table [] [] positions) ∙ e))

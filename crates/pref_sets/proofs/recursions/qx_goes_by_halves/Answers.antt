@@ -2,7 +2,7 @@ use Rattle.std.proofs.Common.{◌≡◌, ℕ, zero, suc, ◌+◌, ◌<◌, ◌�
 use Rattle.pref_sets.specs.Answers.{Answer, Done, and_then}
 use Rattle.pref_sets.specs.QuickXplain.{qx_behind, qx_part, unless_unsat}
 use Rattle.pref_sets.specs.Positions.{union, lower_half, upper_half}
-use Rattle.pref_sets.proofs.PositionLaws.{halves-length}
+use Rattle.pref_sets.proofs.AscendingPositions.{halves-length}
 use Rattle.pref_sets.proofs.recursions.qx_goes_by_halves.Goals as goal
 
 -- a greater count changes nothing

@@ -1,12 +1,12 @@
 use Rattle.std.proofs.Common.{[], length, sym, ◌∙◌}
 use Rattle.pref_sets.specs.Preferred.{IsWithin}
 use Rattle.pref_sets.proofs.BestLaws.{IsTrimmed-holds, IsTrimmed-minimal}
-use Rattle.pref_sets.proofs.OnlyLaws.{IsTrimmed-only}
-use Rattle.pref_sets.proofs.PreferredLaws.{IsTrimmed-preferred}
-use Rattle.pref_sets.proofs.QuickXplainLaws.{qx_plan, qx_part-plan, qx_plan-within, qx_plan-ascends}
+use Rattle.pref_sets.proofs.OnlyPreferred.{IsTrimmed-only}
+use Rattle.pref_sets.proofs.NonePreferred.{IsTrimmed-preferred}
+use Rattle.pref_sets.proofs.QuickXplainPlan.{qx_plan, qx_part-plan, qx_plan-within, qx_plan-ascends}
 use Rattle.pref_sets.proofs.TrimmedByHalves.{qx-trimmed, Fails, more-fails}
-use Rattle.pref_sets.proofs.PlanLaws.{AsksOnly-found}
-use Rattle.pref_sets.proofs.PositionLaws.{Ascends, Ascends-from_increasing, IsStrictlyIncreasing-from_Ascends, IsDistinct-from_Ascends}
+use Rattle.pref_sets.proofs.Plans.{AsksOnly-found}
+use Rattle.pref_sets.proofs.AscendingPositions.{Ascends, Ascends-from_increasing, IsStrictlyIncreasing-from_Ascends, IsDistinct-from_Ascends}
 use Rattle.lists.proofs.Members.{none as contains_none}
 use Rattle.pref_sets.proofs.recursions.qx_is_trimmed.Goals as goal
 

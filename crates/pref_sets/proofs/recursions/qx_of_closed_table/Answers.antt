@@ -3,7 +3,7 @@ use Rattle.std.proofs.Common.{[]}
 use Rattle.pref_sets.proofs.BestLaws.{IsTrimmed-holds, IsTrimmed-minimal}
 use Rattle.pref_sets.proofs.ClosedTables.{AgreesWith-closed, IsWithinSat-fewer, IsWithinSat-unsat, IsWithinSat-sat}
 use Rattle.pref_sets.proofs.TrimmedByHalves.{qx-trimmed, Fails, more-fails}
-use Rattle.pref_sets.proofs.PositionLaws.{Ascends-from_increasing, IsDistinct-from_Ascends}
+use Rattle.pref_sets.proofs.AscendingPositions.{Ascends-from_increasing, IsDistinct-from_Ascends}
 use Rattle.pref_sets.proofs.recursions.qx_of_closed_table.Goals as goal
 
 pub returns-clause-trimmed : goal.returns-clause-trimmed

@@ -1,4 +1,4 @@
-use Rattle.pref_sets.proofs.TurnLaws.{AgreesWith-push}
+use Rattle.pref_sets.proofs.ToldInTurn.{AgreesWith-push}
 use Rattle.pref_sets.proofs.recursions.right_answers_agree.Goals as goal
 
 pub returns-clause-one_more : goal.returns-clause-one_more

@@ -3,7 +3,7 @@ use Rattle.std.specs.Prelude.{Contains}
 use Rattle.std.proofs.lemmas.Bool.{false≢true}
 use Rattle.std.proofs.lemmas.List.Elements.{All-more, All-same}
 use Rattle.std.proofs.Math.Seq.{take-length}
-use Rattle.pref_sets.proofs.TestLaws.{none-from_any, contains-from_any}
+use Rattle.pref_sets.proofs.TestLists.{none-from_any, contains-from_any}
 use Rattle.pref_sets.proofs.tests.has_all.Goals as goal
 
 pub returns-then-not-contains : goal.returns-then-not-contains

@@ -1,6 +1,6 @@
 use Rattle.std.proofs.Common.{◌+◌, ◌∙◌, ◌++◌, ◌∷◌, [], ap, sym, arith}
 use Rattle.std.specs.List.{range_with_len}
-use Rattle.pref_sets.proofs.TestLaws.{IsDistinct-range}
+use Rattle.pref_sets.proofs.TestLists.{IsDistinct-range}
 use Rattle.lists.proofs.Ranges.{range_with_len-push}
 use Rattle.pref_sets.proofs.tests.numbers_to.Goals as goal
 

@@ -1,4 +1,4 @@
-use Rattle.pref_sets.proofs.TrimLaws.{IsTrimmed-from_behind}
+use Rattle.pref_sets.proofs.TrimmedBehind.{IsTrimmed-from_behind}
 use Rattle.pref_sets.proofs.trimming.trim.Goals as goal
 
 pub returns-clause-trimmed : goal.returns-clause-trimmed

@@ -4,7 +4,7 @@ use Rattle.std.specs.List.{range_with_len}
 use Rattle.pref_sets.specs.Answers.{IsToldInTurn}
 use Rattle.pref_sets.specs.AskedKey.{asked_key}
 use Rattle.pref_sets.specs.FastDiag.{fd}
-use Rattle.pref_sets.proofs.TurnLaws.{IsToldInTurn-none, told-in_turn}
+use Rattle.pref_sets.proofs.ToldInTurn.{IsToldInTurn-none, told-in_turn}
 use Rattle.req_keys.specs.Key.{PositionSet}
 use Rattle.fast_diag.specs.Diagnosing.{Diagnosing}
 use Rattle.fast_diag.specs.inside.Standing.{Stands}

@@ -135,3 +135,22 @@ over-stays table more (asks other go) set e =
     (λ (a : IsAsked table other (Done set)). absurd (cc (a.asked)))
     (λ (k : GoesOn table other go (Done set)). over-known (table ++ more) other go k.sat (answer_to-told table more other k.sat k.known) ∙ over-stays table more (go k.sat) set k.further)
     (over-cases table other go (Done set) e)
+
+-- a table that answers what this one does, on the sets that the plan may ask
+module _ (A R : List ℕ → Type 0) (table other : List Answer) (more : (set : List ℕ) (sat : Bool) → A set → answer_to table set ≡ Some sat → answer_to other set ≡ Some sat) where
+  -- what the plan asks over the one it asks over the other, if that has no answer either
+  pub over-more_asked : (plan : Plan) → AsksOnly A R plan → (set : List ℕ) → over table plan ≡ Ask set → answer_to other set ≡ None → over other plan ≡ Ask set
+  over-more_asked (found found_set) h set e none = absurd (cc)
+  over-more_asked (asks first go) h set e none =
+      ⊎_elim
+      (λ (a : IsAsked table first (Ask set)). let same : first ≡ set = cc (a.asked) in rw same (rw none refl))
+      (λ (k : GoesOn table first go (Ask set)). over-known other first go k.sat (more first k.sat h.0 k.known) ∙ over-more_asked (go k.sat) (h.1 k.sat) set k.further none)
+      (over-cases table first go (Ask set) e)
+
+  pub over-more_found : (plan : Plan) → AsksOnly A R plan → (set : List ℕ) → over table plan ≡ Done set → over other plan ≡ Done set
+  over-more_found (found found_set) h set e = e
+  over-more_found (asks first go) h set e =
+      ⊎_elim
+      (λ (a : IsAsked table first (Done set)). absurd (cc (a.asked)))
+      (λ (k : GoesOn table first go (Done set)). over-known other first go k.sat (more first k.sat h.0 k.known) ∙ over-more_found (go k.sat) (h.1 k.sat) set k.further)
+      (over-cases table first go (Done set) e)

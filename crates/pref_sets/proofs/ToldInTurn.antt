@@ -8,7 +8,7 @@ use Rattle.std.proofs.lemmas.Bool.{cases_Bool}
 use Rattle.std.proofs.lemmas.Slice.Eq.{bytes_eq-Decides}
 use Rattle.pref_sets.specs.Answers.{Answer, AgreesWith, IsToldInTurn, Next, Ask, Done, answer_to, with_answer, told_in_turn}
 use Rattle.pref_sets.specs.Plan.{Plan, found, asks, over}
-use Rattle.pref_sets.proofs.PlanLaws.{AsksAtMost, answer_to-told, answer_to-beyond, answer_to-first, over-known, IsAsked, GoesOn, over-cases, over-new}
+use Rattle.pref_sets.proofs.Plans.{AsksAtMost, answer_to-told, answer_to-beyond, answer_to-first, over-known, IsAsked, GoesOn, over-cases, over-new}
 
 -- the same, from the first answer on
 abbrev pub AreTurns : (List Answer → Next) → List Answer → List Answer → Type 0

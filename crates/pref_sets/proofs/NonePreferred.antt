@@ -9,7 +9,7 @@ use Rattle.pref_sets.specs.Trimmed.{IsTrimmed}
 use Rattle.pref_sets.specs.inside.TrimmedBehind.{IsTrimmedBehind}
 use Rattle.pref_sets.specs.Preferred.{IsWithin, IsDistinct, IsPreferredTo, IsPreferredConflictTo}
 use Rattle.pref_sets.specs.Properties.{PassesToFewer, PassesToMore}
-use Rattle.pref_sets.proofs.TrimLaws.{IsTrimmedBehind-within, only}
+use Rattle.pref_sets.proofs.TrimmedBehind.{IsTrimmedBehind-within, only}
 use Rattle.pref_sets.proofs.BestLaws.{within_kept, greedy-apart, behind-from_IsTrimmed}
 use Rattle.lists.proofs.Members.{first as contains_first, later as contains_later, none as contains_none, first_or_later}
 

@@ -1,5 +1,5 @@
 -- Ascending lists of positions, their unions and their halves.
-use Rattle.std.proofs.Common.{◌≡◌, ℕ, zero, suc, ◌+◌, ◌<◌, ◌≤◌, ◌-◌, ◌/◌, min, true, false, eqb, ltb, List, [], ◌∷◌, ◌++◌, length, get_or, refl, ◌∙◌, ⊎_elim, arith, add-one}
+use Rattle.std.proofs.Common.{◌≡◌, ℕ, zero, suc, ◌+◌, ◌<◌, ◌≤◌, ◌-◌, ◌/◌, min, true, false, eqb, ltb, List, [], ◌∷◌, ◌++◌, ◌⊎◌, length, get_or, refl, ◌∙◌, ⊎_elim, arith, add-one}
 use Rattle.std.specs.Prelude.{Contains}
 use Rattle.std.specs.List.{AllPairs}
 use Rattle.std.specs.List.Sorted.{IsStrictlyIncreasing}
@@ -9,7 +9,7 @@ use Rattle.std.proofs.lemmas.List.Elements.{Contains-append_left, Contains-appen
 use Rattle.std.proofs.lemmas.Bool.{cases_Bool, eqb-true, eqb-false, ltb-true, ltb-false, lt-ltb}
 use Rattle.pref_sets.specs.Positions.{with_position, union, lower_half, upper_half}
 use Rattle.pref_sets.specs.Preferred.{IsWithin, IsDistinct}
-use Rattle.pref_sets.proofs.TrimLaws.{IsWithin-append}
+use Rattle.pref_sets.proofs.TrimmedBehind.{IsWithin-append}
 use Rattle.lists.proofs.Members.{first as contains_first, later as contains_later, none as contains_none, first_or_later}
 
 -- each position is below all later ones
@@ -54,6 +54,32 @@ Ascends-apart (z ∷ a) b h =
       r.1,
       (λ x y m n. ⊎_elim (λ (same : z ≡ x). rw (← same) (h.0 y (Contains-append_right a b y n))) (λ (later : Contains a x). r.2 x y later n) (first_or_later z a x m)),
     )
+
+-- ascending lists with the same members are one
+pub Ascends-same : (a b : List ℕ) → Ascends a → Ascends b → IsWithin a b → IsWithin b a → a ≡ b
+Ascends-same [] [] h k there back = refl
+Ascends-same [] (y ∷ b) h k there back = absurd (contains_none y (back y (contains_first y b)))
+Ascends-same (x ∷ a) [] h k there back = absurd (contains_none x (there x (contains_first x a)))
+Ascends-same (x ∷ a) (y ∷ b) h k there back =
+    let x_high : y ≤ x = ⊎_elim (λ (e : y ≡ x). omega arith) (λ (m : Contains b x). let above : y < x = k.0 x m in omega arith) (first_or_later y b x (there x (contains_first x a))) in
+    let y_high : x ≤ y = ⊎_elim (λ (e : x ≡ y). omega arith) (λ (m : Contains a y). let above : x < y = h.0 y m in omega arith) (first_or_later x a y (back y (contains_first y b))) in
+    let same : x ≡ y = omega arith in
+    let rest : a ≡ b =
+    Ascends-same a b h.1 k.1
+    (λ i m. ⊎_elim (λ (e : y ≡ i). let above : x < i = h.0 i m in absurd (omega arith)) (λ (l : Contains b i). l) (first_or_later y b i (there i (contains_later x a i m))))
+    (λ i m. ⊎_elim (λ (e : x ≡ i). let above : y < i = k.0 i m in absurd (omega arith)) (λ (l : Contains a i). l) (first_or_later x a i (back i (contains_later y b i m)))) in
+    cc
+
+-- no position is in both lists
+abbrev pub AreApart : List ℕ → List ℕ → Type 0
+AreApart a b = (i : ℕ) → Contains a i → Contains b i → ⊥
+
+pub apart-below : (a b : List ℕ) → AreBelow a b → AreApart a b
+apart-below a b below i m n = let less : i < i = below i i m n in omega arith
+
+pub member-of_some : (xs : List ℕ) → 0 < length xs → (x : ℕ) × Contains xs x
+member-of_some [] l = absurd (omega arith)
+member-of_some (x ∷ xs) l = (x, contains_first x xs)
 
 -- a list with one more member
 with_position-cases : (p : ℕ) (set : List ℕ) (i : ℕ) → Contains (with_position p set) i → Contains (p ∷ set) i
@@ -132,6 +158,9 @@ union-has [] b i m = m
 union-has (p ∷ a) b i m =
     with_position-has p (union a b) i
     (⊎_elim (λ (is_p : p ≡ i). rw (← is_p) (contains_first p (union a b))) (λ (later : Contains (a ++ b) i). contains_later p (union a b) i (union-has a b i later)) (first_or_later p (a ++ b) i m))
+
+pub union-cases : (a b : List ℕ) (i : ℕ) → Contains (union a b) i → Contains a i ⊎ Contains b i
+union-cases a b i m = Contains-append_cases a b i (union-within a b i m)
 
 pub union-all : (a b all : List ℕ) → IsWithin a all → IsWithin b all → IsWithin (union a b) all
 union-all a b all h k i m = ⊎_elim (λ (l : Contains a i). h i l) (λ (r : Contains b i). k i r) (Contains-append_cases a b i (union-within a b i m))

@@ -5,9 +5,9 @@ use Rattle.pref_sets.specs.Kept.{IsKept}
 use Rattle.pref_sets.specs.Trimmed.{IsTrimmed}
 use Rattle.pref_sets.specs.Preferred.{IsWithin, IsDistinct, AgreeOn, IsPreferredTo, IsPreferredConflictTo}
 use Rattle.pref_sets.specs.Properties.{PassesToFewer, PassesToMore}
-use Rattle.pref_sets.proofs.TrimLaws.{IsTrimmedBehind-within}
+use Rattle.pref_sets.proofs.TrimmedBehind.{IsTrimmedBehind-within}
 use Rattle.pref_sets.proofs.BestLaws.{IsKept-holds, IsTrimmed-holds, contains_cases, behind-from_IsTrimmed}
-use Rattle.pref_sets.proofs.PreferredLaws.{IsKept-preferred, IsTrimmed-preferred}
+use Rattle.pref_sets.proofs.NonePreferred.{IsKept-preferred, IsTrimmed-preferred}
 use Rattle.lists.proofs.Members.{none as contains_none, first_or_later}
 
 agree-cons : (x : ℕ) (items a b : List ℕ) → Contains a x ↔ Contains b x → AgreeOn items a b → AgreeOn (x ∷ items) a b
