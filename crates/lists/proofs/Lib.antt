@@ -1,3 +1,4 @@
 pub mod Distinct
 pub mod Members
+pub mod RangeMembers
 pub mod Ranges

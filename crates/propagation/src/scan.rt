@@ -4,7 +4,7 @@ ghost use Rattle.clauses.specs.Clause.{unit_of};
 ghost use Rattle.clauses.specs.Closure.{clash};
 ghost use Rattle.clauses.specs.Problem.{IsBelow};
 ghost use Rattle.propagation.specs.Propagation.{all_of};
-ghost use Rattle.propagation.specs.Values.{ComesTo, IsScan, IsSound, Shows, joined};
+ghost use Rattle.propagation.specs.inside.Values.{ComesTo, IsScan, IsSound, Shows, joined};
 
 use crate::values::Values;
 use clauses::{Clause, Clauses, Lit, Problem};

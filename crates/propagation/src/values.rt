@@ -1,6 +1,6 @@
 //! The values of the variables.
 ghost use Rattle.std.specs.Prelude.{◌≡◌, ◌<◌, ◌↔◌, IsTrue, length, replicate, IfOk, slice_set, Some, None};
-ghost use Rattle.propagation.specs.Values.{IsFalseIn, value_at};
+ghost use Rattle.propagation.specs.inside.Values.{IsFalseIn, value_at};
 
 use clauses::Lit;
 use std::alloc::{AllocError, Global};

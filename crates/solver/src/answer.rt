@@ -1,13 +1,14 @@
 //! What a search answers.
 ghost use Rattle.std.specs.Prelude.{◌≡◌, ◌<◌, ◌==◌, [], ◌∷◌, ◌++◌, length, slice_get, Some, OnOk, OnErr};
 
-use clauses::Clauses;
+use clauses::Derivation;
 use std::alloc::{AllocError, AllocFailed, Global};
 use std::marker::Model;
 
 /// A value for each variable, by its number.
 #[derive(Drop)]
 pub struct Assignment {
+    /// The values, in the order of the variables.
     items: Vec<bool>,
 }
 
@@ -61,9 +62,6 @@ impl Assignment {
         Ok(())
     }
 }
-
-/// The learned clauses in order, and then the empty clause.
-pub type Derivation = Clauses;
 
 /// How a search ends.
 #[derive(Drop)]

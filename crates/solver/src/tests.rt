@@ -1,52 +1,26 @@
-//! Searches over problems of six variables, worked by hand. A letter is a literal: a to f are the variables, in order,
-//! and capital letters their negations. A word is a clause.
-ghost use Rattle.std.specs.Prelude.{◌≡◌, ◌<◌, All, IfOk};
-ghost use Rattle.clauses.specs.Problem.{IsBelow};
-
+//! Searches over problems of six variables, worked by hand. A letter is a literal, a word is a clause.
 use crate::{Answer, Assignment, NoStop, Stop, solve};
-use clauses::{Clause, Clauses, Lit, Lits, Problem};
+use clauses::{Clause, Clauses, Lit, Lits, Problem, clauses_of, literal_of};
 use req_keys::Key;
 use std::alloc::{AllocError, Global};
 use std::test::Fail;
 
-fn literal_of(letter: u8) -> Lit
-    ensures { IsBelow 6 result }
-{
-    Lit {
-        var: (u32::from(letter | 0x20) + 5) % 6,
-        positive: letter >= b'a',
-    }
-}
-
+/// The letter of a literal.
 fn letter_of(literal: &Lit) -> char {
     let letters = if literal.positive { "abcdef" } else { "ABCDEF" };
     letters.chars().nth(literal.var as usize).unwrap_or('?')
 }
 
-fn clause_of(alloc: Global, word: &str) -> Result<Clause, AllocError>
-    ensures { IfOk result (All (IsBelow 6)) }
-{
-    let mut clause = Clause::new(alloc);
-    for letter in word.as_bytes() {
-        clause.push(literal_of(*letter))?;
-    }
-    Ok(clause)
-}
-
 fn problem_of(alloc: Global, row: &Row) -> Result<Problem, AllocError> {
-    let mut clauses = Clauses::new(alloc);
-    for word in row.clauses {
-        clauses.push(clause_of(alloc, word)?)?;
-    }
     let mut roots = Lits::new(alloc);
     if row.roots != b"  " {
-        roots.push(literal_of(row.roots[0]))?;
-        roots.push(literal_of(row.roots[1]))?;
+        roots.push(literal_of(6, row.roots[0]))?;
+        roots.push(literal_of(6, row.roots[1]))?;
     }
     Ok(Problem {
         variables: 6,
         features: 6,
-        clauses,
+        clauses: clauses_of(alloc, 6, row.clauses)?,
         roots,
         allowance: u64::from(row.allowance),
     })
