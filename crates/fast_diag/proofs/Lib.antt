@@ -1,8 +1,6 @@
-pub mod AgreeLaws
-pub mod OnceLaws
-pub mod PartLaws
-pub mod RangeLaws
-pub mod RiseLaws
-pub mod StandLaws
-pub mod ToldLaws
-pub mod WaitLaws
+pub mod AfterAnswer
+pub mod PartPlan
+pub mod PartPlanAgrees
+pub mod PartPlanOnce
+pub mod Standing
+pub mod WaitingHalves

@@ -3,7 +3,10 @@ use Rattle.std.specs.Prelude.{◌≡◌, ℕ, Bool, true, false, Some, None, Lis
 use Rattle.std.specs.List.{range_with_len}
 use Rattle.pref_sets.specs.Answers.Next.{Ask, Done}
 use Rattle.pref_sets.specs.FastDiag.{fd}
-use Rattle.fast_diag.specs.Diagnosing.{Diagnosing, next_of, key_over, asked_key, told_in_turn}
+use Rattle.pref_sets.specs.Answers.{told_in_turn}
+use Rattle.pref_sets.specs.AskedKey.{asked_key}
+use Rattle.req_keys.specs.Wanting.{key_over}
+use Rattle.fast_diag.specs.Diagnosing.{Diagnosing, next_of}
 
 -- the state over n positions after these answers
 abbrev after : ℕ → List Bool → Diagnosing

@@ -1,5 +1,3 @@
 pub mod Diagnosing
 pub mod Examples
-pub mod Remaining
-pub mod Standing
-pub mod Turns
+pub mod inside

@@ -1,11 +1,14 @@
-//! The state.
+//! The state: how many positions there are, the told answers, and what is still to do.
 ghost use Rattle.std.specs.Prelude.{◌≡◌, ℕ, ◌≤◌, List, [], ◌∷◌, ◌++◌, IfOk, OnErr, OnOk};
 ghost use Rattle.std.specs.List.{range_with_len};
-ghost use Rattle.pref_sets.specs.Answers.{Next, Ask, Done, IsToldInTurn};
+ghost use Rattle.pref_sets.specs.Answers.{Next, Ask, Done, IsAsking, IsDone, IsToldInTurn};
+ghost use Rattle.pref_sets.specs.AskedKey.{asked_key};
 ghost use Rattle.pref_sets.specs.FastDiag.{fd};
-ghost use Rattle.fast_diag.specs.Diagnosing.{Diagnosing, IsAsking, IsDone, asked_key, key_over, next_of, wanted_key};
+ghost use Rattle.req_keys.specs.Wanting.{key_over, wanted_key};
+ghost use Rattle.fast_diag.specs.Diagnosing.{Diagnosing, next_of};
 
 use crate::parts::Part;
+use lists::Row;
 use req_keys::{Key, Want};
 use std::alloc::{AllocError, Global};
 use std::marker::Model;
@@ -15,7 +18,7 @@ use std::marker::Model;
 pub struct FastDiag {
     n: u32,
     /// The answers so far. Each is on the key that was asked then.
-    told: Vec<bool>,
+    told: Row<bool>,
     part: Part,
 }
 
@@ -23,14 +26,15 @@ impl Model for FastDiag {
     ghost use Rattle.std.specs.Prelude.{[]};
     ghost use Rattle.std.specs.List.{range_with_len};
     ghost use Rattle.pref_sets.specs.FastDiag.{fd};
-    ghost use Rattle.fast_diag.specs.Diagnosing.{Diagnosing, told_in_turn};
-    ghost use Rattle.fast_diag.specs.Standing.{Stands};
+    ghost use Rattle.pref_sets.specs.Answers.{told_in_turn};
+    ghost use Rattle.fast_diag.specs.Diagnosing.{Diagnosing};
+    ghost use Rattle.fast_diag.specs.inside.Standing.{Stands};
 
     ghost Value = { Diagnosing };
 
-    ghost view = { λ a. record { n = a.n; told = told_in_turn (fd (range_with_len 1 a.n)) [] a.told.items } };
+    ghost view = { λ a. record { n = a.n; told = told_in_turn (fd (range_with_len 1 a.n)) [] a.told } };
 
-    ghost invariant = { λ a. Stands a.n a.told.items a.part };
+    ghost invariant = { λ a. Stands a.n a.told a.part };
 }
 
 impl FastDiag {
@@ -41,7 +45,7 @@ impl FastDiag {
     {
         Ok(FastDiag {
             n,
-            told: Vec::new(alloc),
+            told: Row::new(alloc),
             part: Part::start(alloc, n)?,
         })
     }
@@ -52,10 +56,9 @@ impl FastDiag {
         ensures asks { wanted_key result ≡ asked_key self.now.n (next_of self.now) }
         ensures told { IsToldInTurn (fd (range_with_len 1 self.now.n)) [] self.now.told }
     {
-        if self.part.length == 0 {
-            Want::Done
-        } else {
-            Want::Ask(&self.part.asked)
+        match &self.part {
+            Part::Asks(asking) => Want::Ask(&asking.asked),
+            Part::Done(_) => Want::Done,
         }
     }
 
@@ -64,10 +67,13 @@ impl FastDiag {
         requires { IsAsking (next_of self.now) }
         ensures { (set : List ℕ) → next_of self.now ≡ Ask set → IfOk result (λ state. state ≡ record { n = self.now.n; told = self.now.told ++ record { set = set; sat = sat } ∷ [] }) }
     {
-        let alloc = *self.told.allocator();
-        let mut told = self.told.clone()?;
+        let Part::Asks(asking) = &self.part else {
+            unreachable!()
+        };
+        let alloc = self.told.allocator();
+        let mut told = Row::from_slice(alloc, self.told.as_slice())?;
         told.push(sat)?;
-        let part = self.part.copy(alloc)?.told(alloc, sat)?;
+        let part = asking.copy(alloc)?.told(alloc, sat)?;
         Ok(FastDiag {
             n: self.n,
             told,
@@ -89,12 +95,11 @@ impl FastDiag {
     pub fn copy(&self) -> Result<FastDiag, AllocError>
         ensures { IfOk result (λ state. state ≡ self.now) }
     {
-        let told = self.told.clone()?;
-        let part = self.part.copy(*self.told.allocator())?;
+        let alloc = self.told.allocator();
         Ok(FastDiag {
             n: self.n,
-            told,
-            part,
+            told: Row::from_slice(alloc, self.told.as_slice())?,
+            part: self.part.copy(alloc)?,
         })
     }
 
@@ -103,6 +108,9 @@ impl FastDiag {
         requires { IsDone (next_of self.now) }
         ensures { (set : List ℕ) → next_of self.now ≡ Done set → result.now ≡ key_over self.now.n set }
     {
-        &self.part.kept
+        match &self.part {
+            Part::Asks(asking) => &asking.kept,
+            Part::Done(kept) => kept,
+        }
     }
 }

@@ -1,37 +1,46 @@
-//! The parts that are still to do.
+//! What is still to do: a range of positions that is asked, and the halves that wait behind it.
 ghost use Rattle.std.specs.Prelude.{◌≡◌, ℕ, ◌+◌, ◌<◌, ◌≤◌, ◌++◌, [], true, false, reverse, IfOk};
-ghost use Rattle.req_keys.specs.Positions.{RiseWithin};
+ghost use Rattle.pref_sets.specs.Plan.{after_answer};
+ghost use Rattle.pref_sets.specs.Positions.{range};
 ghost use Rattle.req_keys.specs.Key.{empty_key};
-ghost use Rattle.fast_diag.specs.Remaining.{IsPart, StandsAt, after_answer, part_plan, remaining, waiting, with_waiting};
-ghost use Rattle.fast_diag.specs.Turns.{IsTurn};
+ghost use Rattle.req_keys.specs.Positions.{RiseWithin};
+ghost use Rattle.req_keys.specs.Wanting.{key_over};
+ghost use Rattle.fast_diag.specs.inside.Remaining.{AsksRange, IsPart, StandsAt, left_of, part_plan, remaining, waiting, with_waiting};
+ghost use Rattle.fast_diag.specs.inside.Turns.{IsTurn};
 
-use crate::ranges::with_range;
+use lists::Row;
 use req_keys::Key;
 use std::alloc::{AllocError, Global};
 
 /// An upper half that waits until its lower half is done.
-#[derive(Drop)]
+#[derive(Clone, Copy)]
 pub(crate) struct Half {
     pub before: u32,
     pub length: u32,
-    /// What is kept then if all of the lower half is. The upper half can't be Sat with it.
-    pub whole: Key,
+    /// How many positions are kept then if all of the lower half are. The upper half can't be Sat with them.
+    pub whole: u32,
 }
 
-/// A range of positions that is asked behind what is kept, and the halves that wait, the next one last. At the end
-/// the range is empty.
+/// A range of positions that is asked behind what is kept, and the halves that wait, the next one last.
 #[derive(Drop)]
-pub(crate) struct Part {
+pub(crate) struct Asking {
     pub kept: Key,
     /// What is kept and the range.
     pub asked: Key,
     pub before: u32,
     pub length: u32,
-    pub halves: Vec<Half>,
+    pub halves: Row<Half>,
+}
+
+/// A range is asked, or all is done and this is kept.
+#[derive(Drop)]
+pub(crate) enum Part {
+    Asks(Asking),
+    Done(Key),
 }
 
 /// A half whose turn it is, and whether it is known to be Unsat.
-#[derive(Drop)]
+#[derive(Clone, Copy)]
 pub(crate) struct Turn {
     pub before: u32,
     pub length: u32,
@@ -48,19 +57,29 @@ impl Part {
     {
         let kept = Key::empty(alloc, n)?;
         if n == 1 {
-            return finish(kept, 1, Vec::new(alloc));
+            return Ok(Part::Done(kept));
         }
-        divide(alloc, kept, 0, n, Vec::new(alloc))
+        divide(alloc, kept, 0, n, Row::new(alloc))
     }
 
-    /// The parts after the answer to the asked key.
-    pub fn told(self, alloc: Global, sat: bool) -> Result<Part, AllocError>
-        requires part { IsPart self.kept.n self }
-        requires asking { 0 < self.length }
-        ensures parts { IfOk result (IsPart self.kept.n) }
-        ensures plan { IfOk result (λ part. remaining part ≡ after_answer sat (remaining self)) }
+    pub fn copy(&self, alloc: Global) -> Result<Part, AllocError>
+        ensures { IfOk result (λ part. part ≡ self.now) }
     {
-        let Part {
+        match self {
+            Part::Asks(asking) => Ok(Part::Asks(asking.copy(alloc)?)),
+            Part::Done(kept) => Ok(Part::Done(kept.copy()?)),
+        }
+    }
+}
+
+impl Asking {
+    /// What is still to do after the answer to the asked key.
+    pub fn told(self, alloc: Global, sat: bool) -> Result<Part, AllocError>
+        requires { AsksRange self.kept.n self }
+        ensures parts { IfOk result (IsPart self.kept.n) }
+        ensures plan { IfOk result (λ part. remaining part ≡ after_answer sat (left_of self)) }
+    {
+        let Asking {
             kept,
             asked,
             before,
@@ -76,48 +95,28 @@ impl Part {
         divide(alloc, kept, before, length, halves)
     }
 
-    pub fn copy(&self, alloc: Global) -> Result<Part, AllocError>
-        ensures { IfOk result (λ part. part.kept ≡ self.now.kept × part.asked ≡ self.now.asked × part.before ≡ self.now.before × part.length ≡ self.now.length × part.halves.items ≡ self.now.halves.items) }
+    pub fn copy(&self, alloc: Global) -> Result<Asking, AllocError>
+        ensures { IfOk result (λ asking. asking ≡ self.now) }
     {
-        Ok(Part {
+        Ok(Asking {
             kept: self.kept.copy()?,
             asked: self.asked.copy()?,
             before: self.before,
             length: self.length,
-            halves: copy_halves(alloc, &self.halves)?,
+            halves: Row::from_slice(alloc, self.halves.as_slice())?,
         })
     }
 }
 
-fn copy_halves(alloc: Global, halves: &[Half]) -> Result<Vec<Half>, AllocError>
-    ensures { IfOk result (λ copies. copies.items ≡ halves.now) }
+/// The key and the range of positions above its members.
+fn with_range(alloc: Global, kept: &Key, before: u32, length: u32) -> Result<Key, AllocError>
+    requires most { kept.now.n ≤ 4096 }
+    requires within { before + length ≤ kept.now.n }
+    requires below { RiseWithin 0 before kept.now.members }
+    ensures { IfOk result (λ key. key ≡ key_over kept.now.n (kept.now.members ++ range before length)) }
 {
-    let mut copies = Vec::new(alloc);
-    for half in halves {
-        copies.push(Half {
-            before: half.before,
-            length: half.length,
-            whole: half.whole.copy()?,
-        })?;
-    }
-    Ok(copies)
-}
-
-/// Nothing is left to do.
-fn finish(kept: Key, at: u32, halves: Vec<Half>) -> Result<Part, AllocError>
-    requires place { StandsAt kept.n at kept halves.items }
-    requires none { halves.items ≡ [] }
-    ensures parts { IfOk result (IsPart kept.n) }
-    ensures plan { IfOk result (λ part. remaining part ≡ waiting (reverse halves.items) kept.members) }
-{
-    let asked = kept.copy()?;
-    Ok(Part {
-        kept,
-        asked,
-        before: at,
-        length: 0,
-        halves,
-    })
+    let range = Key::range(alloc, kept.n(), before, length)?;
+    kept.union(&range)
 }
 
 /// The range is asked.
@@ -126,22 +125,22 @@ fn ask(
     kept: Key,
     before: u32,
     length: u32,
-    halves: Vec<Half>,
+    halves: Row<Half>,
 ) -> Result<Part, AllocError>
     requires some { 0 < length }
     requires below { RiseWithin 0 before kept.members }
-    requires place { StandsAt kept.n (before + length) kept halves.items }
+    requires place { StandsAt kept.n (before + length) kept halves }
     ensures parts { IfOk result (IsPart kept.n) }
-    ensures plan { IfOk result (λ part. remaining part ≡ with_waiting kept.members before length false halves.items) }
+    ensures plan { IfOk result (λ part. remaining part ≡ with_waiting kept.members before length false halves) }
 {
     let asked = with_range(alloc, &kept, before, length)?;
-    Ok(Part {
+    Ok(Part::Asks(Asking {
         kept,
         asked,
         before,
         length,
         halves,
-    })
+    }))
 }
 
 /// The range is known to be Unsat: its lower half is asked, and its upper half waits.
@@ -150,37 +149,40 @@ fn divide(
     kept: Key,
     before: u32,
     length: u32,
-    mut halves: Vec<Half>,
+    mut halves: Row<Half>,
 ) -> Result<Part, AllocError>
     requires some { 2 ≤ length }
     requires below { RiseWithin 0 before kept.members }
-    requires place { StandsAt kept.n (before + length) kept halves.items }
+    requires place { StandsAt kept.n (before + length) kept halves }
     ensures parts { IfOk result (IsPart kept.n) }
-    ensures plan { IfOk result (λ part. remaining part ≡ with_waiting kept.members before length true halves.items) }
+    ensures plan { IfOk result (λ part. remaining part ≡ with_waiting kept.members before length true halves) }
 {
     let half = length / 2;
     let asked = with_range(alloc, &kept, before, half)?;
     halves.push(Half {
         before: before + half,
         length: length - half,
-        whole: asked.copy()?,
+        whole: kept.len() + half,
     })?;
-    Ok(Part {
+    Ok(Part::Asks(Asking {
         kept,
         asked,
         before,
         length: half,
         halves,
-    })
+    }))
 }
 
 /// The next half that isn't done at once. A single position that is known to be Unsat is: it isn't kept.
-fn next_turn(kept: &Key, halves: &mut Vec<Half>, at: u32) -> Option<Turn>
-    requires place { StandsAt kept.now.n at kept.now halves.old.items }
-    ensures { IsTurn kept.now at halves.old.items halves.new.items result }
+fn next_turn(kept: &Key, halves: &mut Row<Half>, at: u32) -> Option<Turn>
+    requires place { StandsAt kept.now.n at kept.now halves.old }
+    ensures { IsTurn kept.now at halves.old halves.new result }
 {
-    while let Some(half) = halves.pop() {
-        let known = *kept == half.whole;
+    while !halves.is_empty() {
+        let last = halves.len() - 1;
+        let half = *halves.get(last);
+        halves.truncate(last);
+        let known = kept.len() == half.whole;
         if !known || half.length > 1 {
             return Some(Turn {
                 before: half.before,
@@ -193,13 +195,13 @@ fn next_turn(kept: &Key, halves: &mut Vec<Half>, at: u32) -> Option<Turn>
 }
 
 /// A range is done, up to position `at`: the halves that wait are next.
-fn settle(alloc: Global, kept: Key, at: u32, mut halves: Vec<Half>) -> Result<Part, AllocError>
-    requires place { StandsAt kept.n at kept halves.items }
+fn settle(alloc: Global, kept: Key, at: u32, mut halves: Row<Half>) -> Result<Part, AllocError>
+    requires place { StandsAt kept.n at kept halves }
     ensures parts { IfOk result (IsPart kept.n) }
-    ensures plan { IfOk result (λ part. remaining part ≡ waiting (reverse halves.items) kept.members) }
+    ensures plan { IfOk result (λ part. remaining part ≡ waiting (reverse halves) kept.members) }
 {
     match next_turn(&kept, &mut halves, at) {
-        None => finish(kept, at, halves),
+        None => Ok(Part::Done(kept)),
         Some(turn) => {
             if turn.known {
                 divide(alloc, kept, turn.before, turn.length, halves)

@@ -1,4 +1,5 @@
 pub mod Distinct
 pub mod Members
 pub mod RangeMembers
+pub mod RangeParts
 pub mod Ranges

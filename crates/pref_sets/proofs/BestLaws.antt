@@ -7,14 +7,11 @@ use Rattle.std.proofs.lemmas.Bool.{cases_eq, eq-eqb, ne_eqb}
 use Rattle.pref_sets.specs.Greedy.{IsGreedy}
 use Rattle.pref_sets.specs.Kept.{IsKept, with_item}
 use Rattle.pref_sets.specs.Trimmed.{IsTrimmed, without_item}
-use Rattle.pref_sets.specs.TrimmedBehind.{IsTrimmedBehind}
+use Rattle.pref_sets.specs.inside.TrimmedBehind.{IsTrimmedBehind}
 use Rattle.pref_sets.specs.Preferred.{IsWithin, IsDistinct}
-use Rattle.pref_sets.proofs.TrimLaws.{IsMonotone, IsWithin-append, IsTrimmedBehind-within, IsTrimmedBehind-keeps, without_item-middle, only}
+use Rattle.pref_sets.specs.Properties.{PassesToFewer, PassesToMore}
+use Rattle.pref_sets.proofs.TrimLaws.{IsWithin-append, IsTrimmedBehind-within, IsTrimmedBehind-keeps, without_item-middle, only}
 use Rattle.lists.proofs.Members.{first as contains_first, later as contains_later, none as contains_none, first_or_later}
-
--- a property of all lists that passes to every list with fewer members
-abbrev pub IsAntitone : (List ℕ → Type 0) → Type 0
-IsAntitone P = (a b : List ℕ) → IsWithin a b → P b → P a
 
 -- the set that the fold starts with stays in its result
 pub within_kept : (P : List ℕ → Type 0) (items set kept : List ℕ) → IsGreedy P with_item set items kept → IsWithin set kept
@@ -28,7 +25,7 @@ kept-holds P (x ∷ items) set kept (inl g) h = kept-holds P items (set ++ x ∷
 kept-holds P (x ∷ items) set kept (inr g) h = kept-holds P items set kept g.1 h
 
 -- a set that has the property and all of the kept set has no other item
-kept-maximal : (P : List ℕ → Type 0) → IsAntitone P → (items set kept : List ℕ) → IsGreedy P with_item set items kept → (other : List ℕ) → P other → IsWithin kept other → (i : ℕ) → Contains items i → Contains other i → Contains kept i
+kept-maximal : (P : List ℕ → Type 0) → PassesToFewer P → (items set kept : List ℕ) → IsGreedy P with_item set items kept → (other : List ℕ) → P other → IsWithin kept other → (i : ℕ) → Contains items i → Contains other i → Contains kept i
 kept-maximal P fewer [] set kept g other h w i m n = absurd (contains_none i m)
 kept-maximal P fewer (x ∷ items) set kept (inl g) other h w i m n =
     ⊎_elim
@@ -48,7 +45,7 @@ kept-maximal P fewer (x ∷ items) set kept (inr g) other h w i m n =
 pub IsKept-holds : (P : List ℕ → Type 0) (items kept : List ℕ) → P [] → IsKept P items kept → P kept
 IsKept-holds P items kept h g = kept-holds P items [] kept g h
 
-pub IsKept-maximal : (P : List ℕ → Type 0) → IsAntitone P → (items kept : List ℕ) → IsKept P items kept → (other : List ℕ) → P other → IsWithin kept other → (i : ℕ) → Contains items i → Contains other i → Contains kept i
+pub IsKept-maximal : (P : List ℕ → Type 0) → PassesToFewer P → (items kept : List ℕ) → IsKept P items kept → (other : List ℕ) → P other → IsWithin kept other → (i : ℕ) → Contains items i → Contains other i → Contains kept i
 IsKept-maximal P fewer items kept g = kept-maximal P fewer items [] kept g
 
 -- the fold over items and one more, taken apart
@@ -86,7 +83,7 @@ behind-from_IsTrimmed P items left d g =
     let r : (l : List ℕ) × (left ≡ [] ++ l) × IsTrimmedBehind P [] items l = behind-from_greedy P items [] left d (λ i m n. contains_none i m) g in
     rw r.1 r.2
 
-pub IsTrimmed-holds : (P : List ℕ → Type 0) → IsMonotone P → (items left : List ℕ) → IsDistinct items → P items → IsTrimmed P items left → P left
+pub IsTrimmed-holds : (P : List ℕ → Type 0) → PassesToMore P → (items left : List ℕ) → IsDistinct items → P items → IsTrimmed P items left → P left
 IsTrimmed-holds P more items left d h g = IsTrimmedBehind-keeps P more items [] left (behind-from_IsTrimmed P items left d g) h
 
 -- whether a list has an item is decided
@@ -133,7 +130,7 @@ without_item-of (y ∷ ys) x i m =
     (cases_eq y x)
 
 -- a part of what stays that has the property behind the same items is all of it
-behind-minimal : (P : List ℕ → Type 0) → IsMonotone P → (items before left : List ℕ) → IsTrimmedBehind P before items left → (other : List ℕ) → IsWithin other left → P (before ++ other) → IsWithin left other
+behind-minimal : (P : List ℕ → Type 0) → PassesToMore P → (items before left : List ℕ) → IsTrimmedBehind P before items left → (other : List ℕ) → IsWithin other left → P (before ++ other) → IsWithin left other
 behind-minimal P more [] before left t other w h i m = absurd (contains_none i (rw t at m))
 behind-minimal P more (x ∷ items) before left t other w h i m =
     let later : List ℕ = t.0 in
@@ -170,5 +167,5 @@ behind-minimal P more (x ∷ items) before left t other w h i m =
     (first_or_later x later i (rw n.1 at m)))
     t.2
 
-pub IsTrimmed-minimal : (P : List ℕ → Type 0) → IsMonotone P → (items left : List ℕ) → IsDistinct items → IsTrimmed P items left → (other : List ℕ) → IsWithin other left → P other → IsWithin left other
+pub IsTrimmed-minimal : (P : List ℕ → Type 0) → PassesToMore P → (items left : List ℕ) → IsDistinct items → IsTrimmed P items left → (other : List ℕ) → IsWithin other left → P other → IsWithin left other
 IsTrimmed-minimal P more items left d g = behind-minimal P more items [] left (behind-from_IsTrimmed P items left d g)

@@ -1,9 +1,9 @@
 -- A table that is closed under subsets agrees with 'within a set that it has as Sat'.
 use Rattle.std.proofs.Common.{◌≡◌, ℕ, true, false, Some, List}
 use Rattle.pref_sets.specs.Answers.{Answer, AgreesWith, IsClosed, IsWithinSat, answer_to}
-use Rattle.pref_sets.proofs.BestLaws.{IsAntitone}
+use Rattle.pref_sets.specs.Properties.{PassesToFewer}
 
-pub IsWithinSat-fewer : (table : List Answer) → IsAntitone (IsWithinSat table)
+pub IsWithinSat-fewer : (table : List Answer) → PassesToFewer (IsWithinSat table)
 IsWithinSat-fewer table a b within h = (h.0, h.1, λ i m. h.2 i (within i m))
 
 pub IsWithinSat-sat : (table : List Answer) (set : List ℕ) → answer_to table set ≡ Some true → IsWithinSat table set

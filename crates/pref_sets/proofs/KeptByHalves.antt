@@ -9,14 +9,15 @@ use Rattle.pref_sets.specs.Greedy.{IsGreedy}
 use Rattle.pref_sets.specs.Kept.{IsKept, with_item}
 use Rattle.pref_sets.specs.Positions.{union, lower_half, upper_half}
 use Rattle.pref_sets.specs.Preferred.{IsWithin}
-use Rattle.pref_sets.proofs.BestLaws.{IsAntitone}
-use Rattle.pref_sets.proofs.TrimLaws.{IsGreedy-append}
-use Rattle.pref_sets.proofs.PlanLaws.{Plan, found, over, chain, Finds, Finds-chain, Finds-over}
+use Rattle.pref_sets.specs.Properties.{PassesToFewer}
+use Rattle.pref_sets.proofs.TrimLaws.{IsGreedy-append, IsWithin-append}
+use Rattle.pref_sets.specs.Plan.{Plan, found, over, chain}
+use Rattle.pref_sets.proofs.PlanLaws.{Finds, Finds-chain, Finds-over}
 use Rattle.pref_sets.proofs.PositionLaws.{HaveSame, union-same, union-all, Ascends, Ascends-apart, AreBelow, union-within, union-has, union-ascends, union-append, halves-join, halves-length}
 use Rattle.pref_sets.proofs.FastDiagLaws.{sat_plan, fd_plan, fd_part-plan}
 use Rattle.lists.proofs.Members.{none as contains_none}
 
-module _ (P : List ℕ → Type 0) (fewer : IsAntitone P) where
+module _ (P : List ℕ → Type 0) (fewer : PassesToFewer P) where
   -- the positions are gone through behind the background, and what is kept of them stands behind it
   pub record IsKeptBehind (background positions kept : List ℕ) : Type 0 where
     pub greedy : IsGreedy P with_item background positions (background ++ kept)
@@ -79,6 +80,12 @@ module _ (P : List ℕ → Type 0) (fewer : IsAntitone P) where
       let there : P ((list ++ first) ++ second) = rw all at p in
       n (rw halves-join at (rw append_assoc at there))))
       (λ upper two. rw halves-join at (halves-kept first second list lower upper apart.2 one two))))
+
+  -- what a set has with a background passes to fewer members too
+  pub passes-behind : (background : List ℕ) → PassesToFewer (λ set. P (union background set))
+  passes-behind background a b within p =
+      fewer (union background a) (union background b)
+      (λ i m. union-has background b i (IsWithin-append background a background b (λ j n. n) within i (union-within background a i m))) p
 
   -- behind a background, as a kept set by itself
   shift : (Q : List ℕ → Type 0) (background : List ℕ) → ((s : List ℕ) → P (background ++ s) → Q s) → ((s : List ℕ) → Q s → P (background ++ s)) → (positions set kept : List ℕ) → IsGreedy P with_item (background ++ set) positions (background ++ kept) → IsGreedy Q with_item set positions kept

@@ -5,9 +5,11 @@ pub mod GreedyLaws
 pub mod KeptByHalves
 pub mod OnlyLaws
 pub mod PlanLaws
+pub mod PlansLeft
 pub mod PositionLaws
 pub mod PreferredLaws
 pub mod QuickXplainLaws
+pub mod RisingPositions
 pub mod TestLaws
 pub mod TrimLaws
 pub mod TrimmedByHalves

@@ -4,8 +4,9 @@ use Rattle.std.specs.Prelude.{Contains, ◌↔◌}
 use Rattle.pref_sets.specs.Kept.{IsKept}
 use Rattle.pref_sets.specs.Trimmed.{IsTrimmed}
 use Rattle.pref_sets.specs.Preferred.{IsWithin, IsDistinct, AgreeOn, IsPreferredTo, IsPreferredConflictTo}
-use Rattle.pref_sets.proofs.TrimLaws.{IsMonotone, IsTrimmedBehind-within}
-use Rattle.pref_sets.proofs.BestLaws.{IsAntitone, IsKept-holds, IsTrimmed-holds, contains_cases, behind-from_IsTrimmed}
+use Rattle.pref_sets.specs.Properties.{PassesToFewer, PassesToMore}
+use Rattle.pref_sets.proofs.TrimLaws.{IsTrimmedBehind-within}
+use Rattle.pref_sets.proofs.BestLaws.{IsKept-holds, IsTrimmed-holds, contains_cases, behind-from_IsTrimmed}
 use Rattle.pref_sets.proofs.PreferredLaws.{IsKept-preferred, IsTrimmed-preferred}
 use Rattle.lists.proofs.Members.{none as contains_none, first_or_later}
 
@@ -74,7 +75,7 @@ last_difference (x ∷ items) a b =
     (last_difference items a b)
 
 -- a set with the property to which none is preferred has the same items as the kept set
-pub IsKept-only : (P : List ℕ → Type 0) → IsAntitone P → P [] → (items kept : List ℕ) → IsKept P items kept → (other : List ℕ) → P other → ((third : List ℕ) → P third → IsPreferredTo items third other → ⊥) → AgreeOn items other kept
+pub IsKept-only : (P : List ℕ → Type 0) → PassesToFewer P → P [] → (items kept : List ℕ) → IsKept P items kept → (other : List ℕ) → P other → ((third : List ℕ) → P third → IsPreferredTo items third other → ⊥) → AgreeOn items other kept
 IsKept-only P fewer empty items kept k other h best =
     ⊎_elim
     (λ (agree : AgreeOn items other kept). agree)
@@ -86,7 +87,7 @@ IsKept-only P fewer empty items kept k other h best =
     (first_difference items other kept)
 
 -- some of the items with the property to which none are preferred as a conflict are the items of the trimmed set
-pub IsTrimmed-only : (P : List ℕ → Type 0) → IsMonotone P → (items left : List ℕ) → IsDistinct items → P items → IsTrimmed P items left → (other : List ℕ) → P other → IsWithin other items → ((third : List ℕ) → P third → IsWithin third items → IsPreferredConflictTo items third other → ⊥) → AgreeOn items other left
+pub IsTrimmed-only : (P : List ℕ → Type 0) → PassesToMore P → (items left : List ℕ) → IsDistinct items → P items → IsTrimmed P items left → (other : List ℕ) → P other → IsWithin other items → ((third : List ℕ) → P third → IsWithin third items → IsPreferredConflictTo items third other → ⊥) → AgreeOn items other left
 IsTrimmed-only P more items left d h t other p inside best =
     ⊎_elim
     (λ (agree : AgreeOn items other left). agree)

@@ -1,24 +1,10 @@
--- A recursion over a table of answers as a plan: which set is asked, and how it goes on after Sat and after Unsat.
 -- What a plan finds, which sets it asks and how many, told once for all recursions.
 use Rattle.std.proofs.Common.{eqb, ◌≡◌, ℕ, ◌+◌, ◌<◌, ◌≤◌, ◌-◌, Bool, true, false, Option, Some, None, List, [], ◌∷◌, ◌++◌, ◌⊎◌, refl, ◌∙◌, subst, inl, inr, ⊎_elim, arith}
 use Rattle.std.specs.Cmp.Lexicographic.{pointwise}
 use Rattle.std.proofs.lemmas.Bool.{cases_Bool}
 use Rattle.std.proofs.lemmas.Slice.Eq.{bytes_eq-Decides}
 use Rattle.pref_sets.specs.Answers.{Answer, AgreesWith, Next, Ask, Done, answer_to, by_answer, and_then}
-
-pub data Plan : Type 0 where
-  found : List ℕ → Plan
-  asks : List ℕ → (Bool → Plan) → Plan
-
--- the plan over a table
-abbrev pub over : List Answer → Plan → Next
-over table (found set) = Done set
-over table (asks set go) = by_answer set (answer_to table set) (over table (go true)) (over table (go false))
-
--- one plan after another
-abbrev pub chain : Plan → (List ℕ → Plan) → Plan
-chain (found set) follow = follow set
-chain (asks set go) follow = asks set (λ sat. chain (go sat) follow)
+use Rattle.pref_sets.specs.Plan.{Plan, found, asks, over, chain, AsksOnly}
 
 by_answer-and_then : (set : List ℕ) (answer : Option Bool) (sat unsat : Next) (follow : List ℕ → Next) → by_answer set answer (and_then sat follow) (and_then unsat follow) ≡ and_then (by_answer set answer sat unsat) follow
 by_answer-and_then set None sat unsat follow = refl
@@ -76,11 +62,6 @@ Finds-over P R table (asks other go) agrees h set e =
     (λ (a : IsAsked table other (Done set)). absurd (cc (a.asked)))
     (λ (k : GoesOn table other go (Done set)). Finds-over P R table (go k.sat) agrees (Finds-known P R table other go agrees h k.sat k.known) set k.further)
     (over-cases table other go (Done set) e)
-
--- each set that a plan asks is such, and so is each that it finds
-abbrev pub AsksOnly : (List ℕ → Type 0) → (List ℕ → Type 0) → Plan → Type 0
-AsksOnly A R (found set) = R set
-AsksOnly A R (asks set go) = A set × ((sat : Bool) → AsksOnly A R (go sat))
 
 pub AsksOnly-chain : (A Q R : List ℕ → Type 0) (plan : Plan) (follow : List ℕ → Plan) → AsksOnly A Q plan → ((set : List ℕ) → Q set → AsksOnly A R (follow set)) → AsksOnly A R (chain plan follow)
 AsksOnly-chain A Q R (found set) follow h k = k set h

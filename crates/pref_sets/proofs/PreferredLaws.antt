@@ -6,10 +6,11 @@ use Rattle.std.proofs.lemmas.List.Elements.{Contains-append_left, Contains-appen
 use Rattle.pref_sets.specs.Greedy.{IsGreedy}
 use Rattle.pref_sets.specs.Kept.{IsKept, with_item}
 use Rattle.pref_sets.specs.Trimmed.{IsTrimmed}
-use Rattle.pref_sets.specs.TrimmedBehind.{IsTrimmedBehind}
+use Rattle.pref_sets.specs.inside.TrimmedBehind.{IsTrimmedBehind}
 use Rattle.pref_sets.specs.Preferred.{IsWithin, IsDistinct, IsPreferredTo, IsPreferredConflictTo}
-use Rattle.pref_sets.proofs.TrimLaws.{IsMonotone, IsTrimmedBehind-within, only}
-use Rattle.pref_sets.proofs.BestLaws.{IsAntitone, within_kept, greedy-apart, behind-from_IsTrimmed}
+use Rattle.pref_sets.specs.Properties.{PassesToFewer, PassesToMore}
+use Rattle.pref_sets.proofs.TrimLaws.{IsTrimmedBehind-within, only}
+use Rattle.pref_sets.proofs.BestLaws.{within_kept, greedy-apart, behind-from_IsTrimmed}
 use Rattle.lists.proofs.Members.{first as contains_first, later as contains_later, none as contains_none, first_or_later}
 
 -- what is kept was there or is of the items
@@ -24,14 +25,14 @@ kept_from P (x ∷ items) set kept (inl g) i m =
 kept_from P (x ∷ items) set kept (inr g) i m =
     ⊎_elim (λ (l : Contains set i). inl l) (λ (r : Contains items i). inr (contains_later x items i r)) (kept_from P items set kept g.1 i m)
 
-step_keeps : (P : List ℕ → Type 0) → IsAntitone P → (x : ℕ) (after middle kept other : List ℕ) → IsGreedy P with_item middle (x ∷ after) kept → P other → IsWithin middle other → Contains other x → Contains kept x
+step_keeps : (P : List ℕ → Type 0) → PassesToFewer P → (x : ℕ) (after middle kept other : List ℕ) → IsGreedy P with_item middle (x ∷ after) kept → P other → IsWithin middle other → Contains other x → Contains kept x
 step_keeps P fewer x after middle kept other (inl g) h w there = within_kept P after (middle ++ x ∷ []) kept g.1 x (Contains-push middle x)
 step_keeps P fewer x after middle kept other (inr g) h w there =
     let inside : IsWithin (middle ++ x ∷ []) other = λ j k.
     ⊎_elim (λ (l : Contains middle j). w j l) (λ (r : Contains (x ∷ []) j). rw (← only x j r) there) (Contains-append_cases middle (x ∷ []) j k) in
     absurd (g.0 (fewer (middle ++ x ∷ []) other inside h))
 
-pub IsKept-preferred : (P : List ℕ → Type 0) → IsAntitone P → (items kept : List ℕ) → IsKept P items kept → (other : List ℕ) → P other → ¬ IsPreferredTo items other kept
+pub IsKept-preferred : (P : List ℕ → Type 0) → PassesToFewer P → (items kept : List ℕ) → IsKept P items kept → (other : List ℕ) → P other → ¬ IsPreferredTo items other kept
 IsKept-preferred P fewer items kept g other h d =
     let before : List ℕ = d.0 in
     let x : ℕ = d.1 in
@@ -45,7 +46,7 @@ IsKept-preferred P fewer items kept g other h d =
     (kept_from P before [] parts.0 parts.1 j k) in
     d.6 (step_keeps P fewer x after parts.0 kept other parts.2 h inside d.5)
 
-behind-preferred : (P : List ℕ → Type 0) → IsMonotone P → (before back : List ℕ) (x : ℕ) (after left : List ℕ) → IsDistinct (before ++ x ∷ after) → IsTrimmedBehind P back (before ++ x ∷ after) left → (other : List ℕ) → P other → ((i : ℕ) → Contains other i → Contains (back ++ before) i ⊎ (Contains after i × Contains left i)) → Contains left x → ⊥
+behind-preferred : (P : List ℕ → Type 0) → PassesToMore P → (before back : List ℕ) (x : ℕ) (after left : List ℕ) → IsDistinct (before ++ x ∷ after) → IsTrimmedBehind P back (before ++ x ∷ after) left → (other : List ℕ) → P other → ((i : ℕ) → Contains other i → Contains (back ++ before) i ⊎ (Contains after i × Contains left i)) → Contains left x → ⊥
 behind-preferred P more [] back x after left d t other h w m =
     ⊎_elim
     (λ (y : P (back ++ t.0) × (left ≡ t.0)). d.0 (IsTrimmedBehind-within P after (back ++ x ∷ []) t.0 t.1 x (rw y.1 at m)))
@@ -83,7 +84,7 @@ behind-preferred P more (y ∷ before) back x after left d t other h w m =
     (w j k))
     (inner x m (not_y x at_x))
 
-pub IsTrimmed-preferred : (P : List ℕ → Type 0) → IsMonotone P → (items left : List ℕ) → IsDistinct items → IsTrimmed P items left → (other : List ℕ) → P other → IsWithin other items → ¬ IsPreferredConflictTo items other left
+pub IsTrimmed-preferred : (P : List ℕ → Type 0) → PassesToMore P → (items left : List ℕ) → IsDistinct items → IsTrimmed P items left → (other : List ℕ) → P other → IsWithin other items → ¬ IsPreferredConflictTo items other left
 IsTrimmed-preferred P more items left d g other h w e =
     let before : List ℕ = e.0 in
     let x : ℕ = e.1 in

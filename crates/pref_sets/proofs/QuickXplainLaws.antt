@@ -4,7 +4,8 @@ use Rattle.pref_sets.specs.Answers.{Answer}
 use Rattle.pref_sets.specs.QuickXplain.{qx_part, unless_unsat}
 use Rattle.pref_sets.specs.Positions.{union, lower_half, upper_half}
 use Rattle.pref_sets.specs.Preferred.{IsWithin}
-use Rattle.pref_sets.proofs.PlanLaws.{Plan, found, asks, over, chain, over-chain, AsksOnly, AsksOnly-chain, AsksAtMost, AsksAtMost-weaker, AsksAtMost-chain}
+use Rattle.pref_sets.specs.Plan.{Plan, found, asks, over, chain, AsksOnly}
+use Rattle.pref_sets.proofs.PlanLaws.{over-chain, AsksOnly-chain, AsksAtMost, AsksAtMost-weaker, AsksAtMost-chain}
 use Rattle.pref_sets.proofs.PositionLaws.{union-all, Ascends, Ascends-apart, AreBelow, union-ascends, halves-join, halves-length, lower-within, upper-within}
 use Rattle.lists.proofs.Members.{none as contains_none}
 

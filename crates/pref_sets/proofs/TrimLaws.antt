@@ -8,13 +8,10 @@ use Rattle.std.proofs.lemmas.List.Elements.{Contains-append_left, Contains-appen
 use Rattle.std.proofs.lemmas.Bool.{ne_eqb, eq-eqb}
 use Rattle.pref_sets.specs.Greedy.{IsGreedy}
 use Rattle.pref_sets.specs.Trimmed.{IsTrimmed, without_item}
-use Rattle.pref_sets.specs.TrimmedBehind.{IsTrimmedBehind}
+use Rattle.pref_sets.specs.inside.TrimmedBehind.{IsTrimmedBehind}
 use Rattle.pref_sets.specs.Preferred.{IsWithin, IsDistinct}
+use Rattle.pref_sets.specs.Properties.{PassesToMore}
 use Rattle.lists.proofs.Members.{first as contains_first, later as contains_later, none as contains_none}
-
--- a property of all lists that passes to every list with more members
-abbrev pub IsMonotone : (List ℕ → Type 0) → Type 0
-IsMonotone P = (a b : List ℕ) → IsWithin a b → P a → P b
 
 pub IsWithin-append : (a b c d : List ℕ) → IsWithin a c → IsWithin b d → IsWithin (a ++ b) (c ++ d)
 IsWithin-append a b c d h k i m = ⊎_elim (λ (l : Contains a i). Contains-append_left c d i (h i l)) (λ (r : Contains b i). Contains-append_right c d i (k i r)) (Contains-append_cases a b i m)
@@ -42,7 +39,7 @@ IsTrimmedBehind-iff P Q h (x ∷ items) before left t = (
       t.2,
 )
 
-module _ (P : List ℕ → Type 0) (more : IsMonotone P) where
+module _ (P : List ℕ → Type 0) (more : PassesToMore P) where
   -- only the members of the background matter
   pub IsTrimmedBehind-same : (items before after left : List ℕ) → IsWithin before after → IsWithin after before → IsTrimmedBehind P before items left → IsTrimmedBehind P after items left
   IsTrimmedBehind-same [] before after left h k t = t
@@ -162,7 +159,7 @@ pub IsTrimmed-from_behind : (P : List ℕ → Type 0) (items left : List ℕ) �
 IsTrimmed-from_behind P items left d t = IsGreedy-behind P items [] left d (λ i m n. contains_none i m) t
 
 -- at most one item stays where the background doesn't have the property
-pub IsTrimmedBehind-short : (P : List ℕ → Type 0) (more : IsMonotone P) (items before : List ℕ) → length items < 2 → ¬ P before → IsTrimmedBehind P before items items
+pub IsTrimmedBehind-short : (P : List ℕ → Type 0) (more : PassesToMore P) (items before : List ℕ) → length items < 2 → ¬ P before → IsTrimmedBehind P before items items
 IsTrimmedBehind-short P more [] before l h = refl
 IsTrimmedBehind-short P more (x ∷ []) before l h = IsTrimmedBehind-one P more x before h
 IsTrimmedBehind-short P more (x ∷ y ∷ items) before l h = absurd (omega arith)
@@ -177,7 +174,7 @@ pub same_there_back : (P Q R : List ℕ → Type 0) → ((s : List ℕ) → Q s 
 same_there_back P Q R h k s = (λ r. (h s).0 ((k s).0 r), λ p. (k s).1 ((h s).1 p))
 
 -- the halves, each trimmed by a test that is still the same
-pub IsTrimmedBehind-halves : (P Q R : List ℕ → Type 0) (more : IsMonotone P) (same : (s : List ℕ) → Q s ↔ P s) (still : (s : List ℕ) → R s ↔ P s) (items first second before early late : List ℕ) → items ≡ first ++ second → IsTrimmedBehind Q (before ++ first) second late → IsTrimmedBehind R (before ++ late) first early → IsTrimmedBehind P before items (early ++ late)
+pub IsTrimmedBehind-halves : (P Q R : List ℕ → Type 0) (more : PassesToMore P) (same : (s : List ℕ) → Q s ↔ P s) (still : (s : List ℕ) → R s ↔ P s) (items first second before early late : List ℕ) → items ≡ first ++ second → IsTrimmedBehind Q (before ++ first) second late → IsTrimmedBehind R (before ++ late) first early → IsTrimmedBehind P before items (early ++ late)
 IsTrimmedBehind-halves P Q R more same still items first second before early late e t u =
     rw e
     (IsTrimmedBehind-append P more first second before early late
@@ -185,7 +182,7 @@ IsTrimmedBehind-halves P Q R more same still items first second before early lat
     (IsTrimmedBehind-iff R P still first (before ++ late) early u))
 
 -- before the earlier half is trimmed, the property holds of it with the background and what stayed of the later
-pub yes-of_first : (P Q R : List ℕ → Type 0) (more : IsMonotone P) (same : (s : List ℕ) → Q s ↔ P s) (still : (s : List ℕ) → R s ↔ P s) (items first second before late : List ℕ) → items ≡ first ++ second → P (before ++ items) → IsTrimmedBehind Q (before ++ first) second late → R ((before ++ late) ++ first)
+pub yes-of_first : (P Q R : List ℕ → Type 0) (more : PassesToMore P) (same : (s : List ℕ) → Q s ↔ P s) (still : (s : List ℕ) → R s ↔ P s) (items first second before late : List ℕ) → items ≡ first ++ second → P (before ++ items) → IsTrimmedBehind Q (before ++ first) second late → R ((before ++ late) ++ first)
 yes-of_first P Q R more same still items first second before late e h t =
     let whole : P ((before ++ first) ++ second) = rw (append_assoc, ← e) h in
     let kept : P ((before ++ first) ++ late) = IsTrimmedBehind-keeps P more second (before ++ first) late (IsTrimmedBehind-iff Q P same second (before ++ first) late t) whole in

@@ -5,19 +5,20 @@ use Rattle.pref_sets.specs.Answers.{Answer, AgreesWith, Done}
 use Rattle.pref_sets.specs.QuickXplain.{qx}
 use Rattle.pref_sets.specs.Positions.{union, lower_half, upper_half}
 use Rattle.pref_sets.specs.Trimmed.{IsTrimmed}
-use Rattle.pref_sets.specs.TrimmedBehind.{IsTrimmedBehind}
-use Rattle.pref_sets.proofs.BestLaws.{IsAntitone}
-use Rattle.pref_sets.proofs.TrimLaws.{IsMonotone, IsTrimmedBehind-none, IsTrimmedBehind-one, IsTrimmedBehind-append, IsTrimmedBehind-within, IsTrimmed-from_behind}
-use Rattle.pref_sets.proofs.PlanLaws.{Plan, found, over, chain, Finds, Finds-chain, Finds-over}
+use Rattle.pref_sets.specs.inside.TrimmedBehind.{IsTrimmedBehind}
+use Rattle.pref_sets.specs.Properties.{PassesToFewer, PassesToMore}
+use Rattle.pref_sets.proofs.TrimLaws.{IsTrimmedBehind-none, IsTrimmedBehind-one, IsTrimmedBehind-append, IsTrimmedBehind-within, IsTrimmed-from_behind}
+use Rattle.pref_sets.specs.Plan.{Plan, found, over, chain}
+use Rattle.pref_sets.proofs.PlanLaws.{Finds, Finds-chain, Finds-over}
 use Rattle.pref_sets.proofs.PositionLaws.{HaveSame, union-same, Ascends, Ascends-apart, AreBelow, IsDistinct-from_Ascends, union-ascends, union-append, halves-join, halves-length}
 use Rattle.pref_sets.proofs.QuickXplainLaws.{unsat_plan, qx_plan, qx_part-plan}
 
-module _ (P : List ℕ → Type 0) (fewer : IsAntitone P) where
+module _ (P : List ℕ → Type 0) (fewer : PassesToFewer P) where
   -- not to have the property
   abbrev pub Fails : List ℕ → Type 0
   Fails set = ¬ P set
 
-  pub more-fails : IsMonotone Fails
+  pub more-fails : PassesToMore Fails
   more-fails a b within fails p = fails (fewer a b within p)
 
   -- what is left of the positions behind the background

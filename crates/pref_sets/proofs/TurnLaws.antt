@@ -6,8 +6,9 @@ use Rattle.std.proofs.lemmas.List.{append-nil}
 use Rattle.std.proofs.lemmas.List.Elements.{All-push}
 use Rattle.std.proofs.lemmas.Bool.{cases_Bool}
 use Rattle.std.proofs.lemmas.Slice.Eq.{bytes_eq-Decides}
-use Rattle.pref_sets.specs.Answers.{Answer, AgreesWith, IsToldInTurn, Next, Ask, Done, answer_to}
-use Rattle.pref_sets.proofs.PlanLaws.{Plan, found, asks, over, AsksAtMost, answer_to-told, answer_to-beyond, answer_to-first, over-known, IsAsked, GoesOn, over-cases, over-new}
+use Rattle.pref_sets.specs.Answers.{Answer, AgreesWith, IsToldInTurn, Next, Ask, Done, answer_to, with_answer, told_in_turn}
+use Rattle.pref_sets.specs.Plan.{Plan, found, asks, over}
+use Rattle.pref_sets.proofs.PlanLaws.{AsksAtMost, answer_to-told, answer_to-beyond, answer_to-first, over-known, IsAsked, GoesOn, over-cases, over-new}
 
 -- the same, from the first answer on
 abbrev pub AreTurns : (List Answer → Next) → List Answer → List Answer → Type 0
@@ -154,3 +155,17 @@ AgreesWith-push P table answer h right = record { sat = λ set e. positive set e
         (λ (old : answer_to table set ≡ Some false). h.unsat set old)
         (λ (new : (answer.set ≡ set) × (answer.sat ≡ false)). rw (← new.0) (rw new.1 at right))
         (parts set false e)
+
+-- each answer is on the set that was asked then
+told-one : (next : List Answer → Next) (told : List Answer) (sat : Bool) (here : Next) → next told ≡ here → IsToldInTurn next [] told → IsToldInTurn next [] (with_answer told sat here)
+told-one next told sat (Ask set) e h = IsToldInTurn-push next [] told record { set = set; sat = sat } h e
+told-one next told sat (Done set) e h = h
+
+pub told-in_turn : (next : List Answer → Next) (told : List Answer) (sats : List Bool) → IsToldInTurn next [] told → IsToldInTurn next [] (told_in_turn next told sats)
+told-in_turn next told [] h = h
+told-in_turn next told (sat ∷ sats) h = told-in_turn next (with_answer told sat (next told)) sats (told-one next told sat (next told) refl h)
+
+-- one more answer is told
+pub told-push : (next : List Answer → Next) (told : List Answer) (sats : List Bool) (sat : Bool) → told_in_turn next told (sats ++ sat ∷ []) ≡ with_answer (told_in_turn next told sats) sat (next (told_in_turn next told sats))
+told-push next told [] sat = refl
+told-push next told (first ∷ sats) sat = told-push next (with_answer told first (next told)) sats sat

@@ -36,6 +36,14 @@ pub data Next : Type 0 where
   Ask : List ℕ → Next
   Done : List ℕ → Next
 
+abbrev pub IsAsking : Next → Type 0
+IsAsking (Ask set) = Unit {0}
+IsAsking (Done found) = ⊥
+
+abbrev pub IsDone : Next → Type 0
+IsDone (Ask set) = ⊥
+IsDone (Done found) = Unit {0}
+
 -- what the answer on the set leads to; a set without an answer is asked
 abbrev pub by_answer : List ℕ → Option Bool → Next → Next → Next
 by_answer set None sat unsat = Ask set
@@ -52,3 +60,13 @@ and_then (Done found) follow = follow found
 abbrev pub IsToldInTurn : (List Answer → Next) → List Answer → List Answer → Type 0
 IsToldInTurn next start told =
     (before : List Answer) (answer : Answer) (after : List Answer) → told ≡ before ++ answer ∷ after → next (start ++ before) ≡ Ask answer.set
+
+-- the answers and one more, on the set that is asked over them
+abbrev pub with_answer : List Answer → Bool → Next → List Answer
+with_answer told sat (Ask set) = told ++ record { set = set; sat = sat } ∷ []
+with_answer told sat (Done found) = told
+
+-- the answers after each of these, told one after the other
+abbrev pub told_in_turn : (List Answer → Next) → List Answer → List Bool → List Answer
+told_in_turn next told [] = told
+told_in_turn next told (sat ∷ further) = told_in_turn next (with_answer told sat (next told)) further

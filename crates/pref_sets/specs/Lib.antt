@@ -1,11 +1,14 @@
 pub mod Answers
+pub mod AskedKey
 pub mod Examples
 pub mod FastDiag
 pub mod Greedy
 pub mod Kept
+pub mod Plan
 pub mod Positions
 pub mod Preferred
+pub mod Properties
 pub mod QuickXplain
 pub mod RecursionExamples
 pub mod Trimmed
-pub mod TrimmedBehind
+pub mod inside

@@ -1,5 +1,6 @@
 -- Sets of positions as ascending lists: their union, and the two halves that a recursion divides them into.
-use Rattle.std.specs.Prelude.{ℕ, nat_lt, ◌/◌, ◌==◌, List, [], ◌∷◌, length, take, drop, if◌then◌else◌}
+use Rattle.std.specs.List.{range_with_len}
+use Rattle.std.specs.Prelude.{ℕ, ◌+◌, nat_lt, ◌/◌, ◌==◌, List, [], ◌∷◌, length, take, drop, if◌then◌else◌}
 
 -- the ascending set and one more position, at its place; one that is there stays
 abbrev pub with_position : ℕ → List ℕ → List ℕ
@@ -21,3 +22,7 @@ lower_half positions = take (length positions / 2) positions
 -- the other positions
 abbrev pub upper_half : List ℕ → List ℕ
 upper_half positions = drop (length positions / 2) positions
+
+-- so many positions that come after the first `before`
+abbrev pub range : ℕ → ℕ → List ℕ
+range before length = range_with_len (before + 1) length

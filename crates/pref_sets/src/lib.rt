@@ -12,8 +12,8 @@ mod tests;
 mod trimming;
 
 pub use laws::{
-    Growing, Property, Relaxable, Shrinking, kept_set_is_maximal, kept_set_is_unique,
-    kept_set_of_a_test, trimmed_set_is_minimal, trimmed_set_is_unique, trimmed_set_of_a_test,
+    Property, kept_set_is_maximal, kept_set_is_unique, kept_set_of_a_test, trimmed_set_is_minimal,
+    trimmed_set_is_unique, trimmed_set_of_a_test,
 };
 pub use lists::Numbers;
 pub use recursions::{

@@ -1,27 +1,49 @@
 //! What FastDiag and QuickXplain over a table of answers find, which sets they ask, and that they end.
-ghost use Rattle.std.specs.Prelude.{◌≡◌, ℕ, ◌*◌, ◌-◌, ◌≤◌, Bool, true, false, MatchBool, Some, None, List, [], ◌∷◌, ◌++◌, length, All};
+ghost use Rattle.std.specs.Prelude.{◌≡◌, ℕ, ◌*◌, ◌-◌, ◌≤◌, Bool, true, false, MatchBool, Some, None, List, [], ◌∷◌, ◌++◌, length, All, Contains};
 ghost use Rattle.std.specs.List.Sorted.{IsStrictlyIncreasing};
 ghost use Rattle.pref_sets.specs.Answers.{Answer, AgreesWith, IsClosed, IsWithinSat, IsToldInTurn, Next, Ask, Done, answer_to, and_then, same_set};
 ghost use Rattle.pref_sets.specs.FastDiag.{fd, fd_behind, fd_part, unless_sat};
 ghost use Rattle.pref_sets.specs.Kept.{IsKept};
 ghost use Rattle.pref_sets.specs.Positions.{union, lower_half, upper_half};
-ghost use Rattle.pref_sets.specs.Preferred.{IsWithin};
+ghost use Rattle.pref_sets.specs.Preferred.{AgreeOn, IsWithin, IsPreferredConflictTo};
+ghost use Rattle.pref_sets.specs.Properties.{PassesToFewer};
 ghost use Rattle.pref_sets.specs.QuickXplain.{qx, qx_behind, qx_part, unless_unsat};
 ghost use Rattle.pref_sets.specs.Trimmed.{IsTrimmed};
 
-use crate::laws::Shrinking;
+use crate::laws::Property;
 
 /// What FastDiag finds is the kept set: of ascending positions that don't have the property together, over every table
-/// that agrees with the property. Behind a background it is the kept set for the property that a set has with it.
-pub fn fd_is_kept<P: Shrinking>()
-    ensures kept { (about : P) (positions kept : List ℕ) (table : List Answer) →
+/// that agrees with the property, which passes to fewer members. It has the property where the empty set has it, and no
+/// position can join. Behind a background it is the kept set for the property that a set has with it.
+pub fn fd_is_kept<P: Property>()
+    ensures kept { (about : P) (positions kept : List ℕ) (table : List Answer) → PassesToFewer (P.holds about) →
         IsStrictlyIncreasing positions → ¬ P.holds about positions →
         AgreesWith (P.holds about) table → fd positions table ≡ Done kept →
         IsKept (P.holds about) positions kept }
+    ensures holds { (about : P) (positions kept : List ℕ) (table : List Answer) → PassesToFewer (P.holds about) →
+        IsStrictlyIncreasing positions → P.holds about [] → ¬ P.holds about positions →
+        AgreesWith (P.holds about) table → fd positions table ≡ Done kept → P.holds about kept }
+    ensures maximal { (about : P) (positions kept : List ℕ) (table : List Answer) → PassesToFewer (P.holds about) →
+        IsStrictlyIncreasing positions → ¬ P.holds about positions →
+        AgreesWith (P.holds about) table → fd positions table ≡ Done kept →
+        (other : List ℕ) → P.holds about other → IsWithin kept other →
+        (position : ℕ) → Contains positions position → Contains other position → Contains kept position }
     ensures behind { (about : P) (positions background kept : List ℕ) (table : List Answer) →
+        PassesToFewer (P.holds about) →
         IsStrictlyIncreasing positions → ¬ P.holds about (union background positions) →
         AgreesWith (P.holds about) table → fd_behind table positions background true ≡ Done kept →
         IsKept (λ set. P.holds about (union background set)) positions kept }
+    ensures behind_holds { (about : P) (positions background kept : List ℕ) (table : List Answer) →
+        PassesToFewer (P.holds about) →
+        IsStrictlyIncreasing positions → P.holds about background → ¬ P.holds about (union background positions) →
+        AgreesWith (P.holds about) table → fd_behind table positions background true ≡ Done kept →
+        P.holds about (union background kept) }
+    ensures behind_maximal { (about : P) (positions background kept : List ℕ) (table : List Answer) →
+        PassesToFewer (P.holds about) →
+        IsStrictlyIncreasing positions → ¬ P.holds about (union background positions) →
+        AgreesWith (P.holds about) table → fd_behind table positions background true ≡ Done kept →
+        (other : List ℕ) → P.holds about (union background other) → IsWithin kept other →
+        (position : ℕ) → Contains positions position → Contains other position → Contains kept position }
     ensures within { (positions kept : List ℕ) (table : List Answer) → fd positions table ≡ Done kept →
         IsWithin kept positions }
     ensures ascending { (positions kept : List ℕ) (table : List Answer) → IsStrictlyIncreasing positions →
@@ -37,19 +59,30 @@ pub fn fd_of_closed_table()
 {}
 
 /// What QuickXplain finds is the trimmed set for not having the property: of ascending positions, where the empty set
-/// has the property, over every table that agrees with the property. If the positions don't have it together, that is
-/// their preferred conflict, and a conflict. It is subset-minimal.
-pub fn qx_is_trimmed<P: Shrinking>()
-    ensures trimmed { (about : P) (positions left : List ℕ) (table : List Answer) →
+/// has the property, over every table that agrees with the property, which passes to fewer members. If the positions
+/// don't have it together, that is their preferred conflict: a conflict to which no other one of the positions is
+/// preferred, and the only one. It is subset-minimal.
+pub fn qx_is_trimmed<P: Property>()
+    ensures trimmed { (about : P) (positions left : List ℕ) (table : List Answer) → PassesToFewer (P.holds about) →
         IsStrictlyIncreasing positions → P.holds about [] → AgreesWith (P.holds about) table →
         qx positions table ≡ Done left → IsTrimmed (λ set. ¬ P.holds about set) positions left }
-    ensures conflict { (about : P) (positions left : List ℕ) (table : List Answer) →
+    ensures conflict { (about : P) (positions left : List ℕ) (table : List Answer) → PassesToFewer (P.holds about) →
         IsStrictlyIncreasing positions → ¬ P.holds about positions → P.holds about [] →
         AgreesWith (P.holds about) table → qx positions table ≡ Done left → ¬ P.holds about left }
-    ensures minimal { (about : P) (positions left : List ℕ) (table : List Answer) →
+    ensures minimal { (about : P) (positions left : List ℕ) (table : List Answer) → PassesToFewer (P.holds about) →
         IsStrictlyIncreasing positions → P.holds about [] → AgreesWith (P.holds about) table →
         qx positions table ≡ Done left → (other : List ℕ) → IsWithin other left →
         ¬ P.holds about other → IsWithin left other }
+    ensures preferred { (about : P) (positions left : List ℕ) (table : List Answer) → PassesToFewer (P.holds about) →
+        IsStrictlyIncreasing positions → P.holds about [] → AgreesWith (P.holds about) table →
+        qx positions table ≡ Done left → (other : List ℕ) → ¬ P.holds about other → IsWithin other positions →
+        ¬ IsPreferredConflictTo positions other left }
+    ensures only { (about : P) (positions left : List ℕ) (table : List Answer) → PassesToFewer (P.holds about) →
+        IsStrictlyIncreasing positions → ¬ P.holds about positions → P.holds about [] →
+        AgreesWith (P.holds about) table → qx positions table ≡ Done left →
+        (other : List ℕ) → ¬ P.holds about other → IsWithin other positions →
+        ((third : List ℕ) → ¬ P.holds about third → IsWithin third positions →
+        ¬ IsPreferredConflictTo positions third other) → AgreeOn positions other left }
     ensures within { (positions left : List ℕ) (table : List Answer) → qx positions table ≡ Done left →
         IsWithin left positions }
     ensures ascending { (positions left : List ℕ) (table : List Answer) → IsStrictlyIncreasing positions →
@@ -161,7 +194,7 @@ pub fn qx_goes_by_halves()
 {}
 
 /// A table that agrees with a property still does with one more right answer.
-pub fn right_answers_agree<P: Shrinking>()
+pub fn right_answers_agree<P: Property>()
     ensures none { (about : P) → AgreesWith (P.holds about) [] }
     ensures one_more { (about : P) (table : List Answer) (answer : Answer) → AgreesWith (P.holds about) table →
         MatchBool answer.sat (P.holds about answer.set) (¬ P.holds about answer.set) →

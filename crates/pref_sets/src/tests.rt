@@ -6,14 +6,14 @@ ghost use Rattle.std.specs.List.Sorted.{IsStrictlyIncreasing};
 ghost use Rattle.pref_sets.specs.Answers.{Answer, AgreesWith, Done};
 ghost use Rattle.pref_sets.specs.FastDiag.{fd};
 ghost use Rattle.pref_sets.specs.Kept.{IsKept};
-ghost use Rattle.pref_sets.specs.Preferred.{IsDistinct};
+ghost use Rattle.pref_sets.specs.Preferred.{IsDistinct, IsWithin};
 ghost use Rattle.pref_sets.specs.QuickXplain.{qx};
 ghost use Rattle.pref_sets.specs.Trimmed.{IsTrimmed};
 
-use crate::laws::Shrinking;
-use lists::Numbers;
+use crate::laws::{Property, kept_set_is_maximal, trimmed_set_is_minimal};
 use crate::recursions::{fd_is_kept, qx_is_trimmed, right_answers_agree};
 use crate::trimming::{MonotoneTest, trim};
+use lists::Numbers;
 use std::alloc::{AllocError, Global};
 use std::process::Abort;
 
@@ -133,10 +133,8 @@ struct Apart {
     second: u32,
 }
 
-impl Shrinking for Apart {
+impl Property for Apart {
     ghost holds = { λ about set. ¬ (Contains set about.first × Contains set about.second) };
-
-    ghost fewer = { λ about a b within apart both. apart (within about.first both.0, within about.second both.1) };
 }
 
 /// The laws as a caller has them, for a property that a value gives.
@@ -157,4 +155,42 @@ fn recursions_of(apart: &Apart)
     fd_is_kept::<Apart>();
     qx_is_trimmed::<Apart>();
     right_answers_agree::<Apart>();
+}
+
+/// The kept set of items that don't go together lacks one of them, and a set that lacks one and has all of it has no
+/// other of the items.
+fn relaxation_of(apart: &Apart)
+    ensures lacks { (items kept : List ℕ) →
+        IsKept (λ set. ¬ (Contains set apart.now.first × Contains set apart.now.second)) items kept →
+        ¬ (Contains kept apart.now.first × Contains kept apart.now.second) }
+    ensures maximal { (items kept other : List ℕ) →
+        IsKept (λ set. ¬ (Contains set apart.now.first × Contains set apart.now.second)) items kept →
+        ¬ (Contains other apart.now.first × Contains other apart.now.second) → IsWithin kept other →
+        (item : ℕ) → Contains items item → Contains other item → Contains kept item }
+{
+    kept_set_is_maximal::<Apart>();
+}
+
+/// Two items that make a conflict together.
+struct Together {
+    first: u32,
+    second: u32,
+}
+
+impl Property for Together {
+    ghost holds = { λ about set. Contains set about.first × Contains set about.second };
+}
+
+/// The trimmed set of items among which both are has both, and each part of it with both is all of it.
+fn conflict_of(together: &Together)
+    ensures has_both { (items left : List ℕ) → IsDistinct items →
+        Contains items together.now.first × Contains items together.now.second →
+        IsTrimmed (λ set. Contains set together.now.first × Contains set together.now.second) items left →
+        Contains left together.now.first × Contains left together.now.second }
+    ensures minimal { (items left other : List ℕ) → IsDistinct items →
+        IsTrimmed (λ set. Contains set together.now.first × Contains set together.now.second) items left →
+        IsWithin other left → Contains other together.now.first × Contains other together.now.second →
+        IsWithin left other }
+{
+    trimmed_set_is_minimal::<Together>();
 }

@@ -2,7 +2,7 @@
 ghost use Rattle.std.specs.Prelude.{◌≡◌, ◌↔◌, ℕ, List, ◌++◌, IsTrue, IsFalse, IfOk, OnOk};
 ghost use Rattle.pref_sets.specs.Preferred.{IsWithin, IsDistinct};
 ghost use Rattle.pref_sets.specs.Trimmed.{IsTrimmed};
-ghost use Rattle.pref_sets.specs.TrimmedBehind.{IsTrimmedBehind};
+ghost use Rattle.pref_sets.specs.inside.TrimmedBehind.{IsTrimmedBehind};
 
 use lists::Numbers;
 use std::alloc::{AllocError, Global};

@@ -3,4 +3,5 @@ pub mod Key
 pub mod KeyEq
 pub mod Order
 pub mod Positions
+pub mod Wanting
 pub mod Words

@@ -1,5 +1,6 @@
 //! A set of requirement positions.
 ghost use Rattle.std.specs.Prelude.{◌≡◌, ◌↔◌, ℕ, ◌+◌, ◌*◌, ◌<◌, ◌≤◌, ◌==◌, length, IfOk, IsTrue, IsBitSet};
+ghost use Rattle.std.specs.List.{range_with_len};
 ghost use Rattle.std.specs.Ordering.{as_partial_cmp};
 ghost use Rattle.std.specs.Cmp.{partial_order_from_own_ties};
 ghost use Rattle.std.specs.Cmp.Rules.{comparing};
@@ -10,8 +11,8 @@ ghost use Rattle.req_keys.specs.KeyEq.{key_eq-same};
 ghost use Rattle.req_keys.specs.Order.{key_cmp, key_eq};
 ghost use Rattle.req_keys.specs.Words.{word_count, word_of, words_of, key_of_words, key_hash, IsRowOver};
 
-use lists::Numbers;
 use crate::merge;
+use lists::Numbers;
 use std::alloc::{AllocError, Global};
 use std::cmp::Ordering;
 use std::hash::{Hash, Hasher};
@@ -55,6 +56,19 @@ impl Key {
         let mut members = Vec::new(alloc);
         for i in 0..n {
             members.push(i + 1)?;
+        }
+        Ok(Key { n, members })
+    }
+
+    /// The key of the `length` positions that come after the first `before`.
+    pub fn range(alloc: Global, n: u32, before: u32, length: u32) -> Result<Key, AllocError>
+        requires most { n ≤ 4096 }
+        requires within { before + length ≤ n }
+        ensures { IfOk result (λ key. key ≡ record { n = n; members = range_with_len (before + 1) length }) }
+    {
+        let mut members = Vec::new(alloc);
+        for i in 0..length {
+            members.push(before + i + 1)?;
         }
         Ok(Key { n, members })
     }

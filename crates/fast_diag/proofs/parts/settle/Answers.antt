@@ -1,4 +1,4 @@
-use Rattle.fast_diag.proofs.RangeLaws.{RiseWithin-higher}
+use Rattle.req_keys.proofs.Rises.{RiseWithin-higher}
 use Rattle.fast_diag.proofs.parts.settle.Goals as goal
 
 pub divide-requires-clause-below : goal.divide-requires-clause-below

@@ -4,4 +4,4 @@ use Rattle.pref_sets.proofs.GreedyLaws.{IsGreedy-unique}
 use Rattle.pref_sets.proofs.laws.kept_set_is_unique.Goals as goal
 
 pub returns : goal.returns
-returns g c = λ items a b p q. IsGreedy-unique g.P.Property.holds with_item items [] a b p q
+returns g c = λ about items a b p q. IsGreedy-unique (g.P.Property.holds about) with_item items [] a b p q

@@ -4,13 +4,13 @@ use Rattle.pref_sets.proofs.OnlyLaws.{IsTrimmed-only}
 use Rattle.pref_sets.proofs.laws.trimmed_set_is_minimal.Goals as goal
 
 pub returns-clause-holds : goal.returns-clause-holds
-returns-clause-holds g c = λ items left d h k. IsTrimmed-holds g.P.Growing.holds g.P.Growing.more items left d h k
+returns-clause-holds g c = λ about items left more d h k. IsTrimmed-holds (g.P.Property.holds about) more items left d h k
 
 pub returns-clause-minimal : goal.returns-clause-minimal
-returns-clause-minimal g c = λ items left d k. IsTrimmed-minimal g.P.Growing.holds g.P.Growing.more items left d k
+returns-clause-minimal g c = λ about items left more d k. IsTrimmed-minimal (g.P.Property.holds about) more items left d k
 
 pub returns-clause-preferred : goal.returns-clause-preferred
-returns-clause-preferred g c = λ items left d k. IsTrimmed-preferred g.P.Growing.holds g.P.Growing.more items left d k
+returns-clause-preferred g c = λ about items left more d k. IsTrimmed-preferred (g.P.Property.holds about) more items left d k
 
 pub returns-clause-only : goal.returns-clause-only
-returns-clause-only g c = λ items left d h k. IsTrimmed-only g.P.Growing.holds g.P.Growing.more items left d h k
+returns-clause-only g c = λ about items left more d h k. IsTrimmed-only (g.P.Property.holds about) more items left d h k

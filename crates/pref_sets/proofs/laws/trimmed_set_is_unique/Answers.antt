@@ -4,4 +4,4 @@ use Rattle.pref_sets.proofs.GreedyLaws.{IsGreedy-unique}
 use Rattle.pref_sets.proofs.laws.trimmed_set_is_unique.Goals as goal
 
 pub returns : goal.returns
-returns g c = λ items a b p q. IsGreedy-unique g.P.Property.holds without_item (reverse items) items a b p q
+returns g c = λ about items a b p q. IsGreedy-unique (g.P.Property.holds about) without_item (reverse items) items a b p q

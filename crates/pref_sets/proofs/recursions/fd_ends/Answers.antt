@@ -2,7 +2,8 @@ use Rattle.std.proofs.Common.{◌≡◌, List, ℕ, [], ◌++◌, true, length, 
 use Rattle.pref_sets.specs.Answers.{Answer, IsToldInTurn}
 use Rattle.pref_sets.specs.FastDiag.{fd}
 use Rattle.pref_sets.proofs.FastDiagLaws.{fd_plan, fd_part-plan, fd_plan-most}
-use Rattle.pref_sets.proofs.PlanLaws.{Plan, over, AsksAtMost, AsksAtMost-weaker, over-stays}
+use Rattle.pref_sets.specs.Plan.{Plan, over}
+use Rattle.pref_sets.proofs.PlanLaws.{AsksAtMost, AsksAtMost-weaker, over-stays}
 use Rattle.pref_sets.proofs.TurnLaws.{IsToldInTurn-same, told-few, told-done, told-answered, told-once}
 use Rattle.pref_sets.proofs.recursions.fd_ends.Goals as goal
 

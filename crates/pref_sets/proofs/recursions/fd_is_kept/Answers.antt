@@ -1,19 +1,43 @@
 use Rattle.std.proofs.Common.{[], true, length, sym, ◌∙◌}
+use Rattle.std.proofs.lemmas.List.{append-nil}
+use Rattle.pref_sets.specs.Positions.{union}
 use Rattle.pref_sets.specs.Preferred.{IsWithin}
 use Rattle.pref_sets.proofs.FastDiagLaws.{fd_plan, fd_part-plan, fd_plan-within, fd_plan-ascends}
-use Rattle.pref_sets.proofs.KeptByHalves.{fd-kept, fd_behind-kept}
+use Rattle.pref_sets.proofs.BestLaws.{IsKept-holds, IsKept-maximal}
+use Rattle.pref_sets.proofs.KeptByHalves.{fd-kept, fd_behind-kept, passes-behind}
 use Rattle.pref_sets.proofs.PlanLaws.{AsksOnly-found}
-use Rattle.pref_sets.proofs.PositionLaws.{Ascends, Ascends-from_increasing, IsStrictlyIncreasing-from_Ascends}
+use Rattle.pref_sets.proofs.PositionLaws.{union-within, Ascends, Ascends-from_increasing, IsStrictlyIncreasing-from_Ascends}
 use Rattle.lists.proofs.Members.{none as contains_none}
 use Rattle.pref_sets.proofs.recursions.fd_is_kept.Goals as goal
 
 pub returns-clause-kept : goal.returns-clause-kept
-returns-clause-kept g c = λ about positions kept table rises fails agrees e.
-    fd-kept (g.P.Shrinking.holds about) (g.P.Shrinking.fewer about) positions kept table (Ascends-from_increasing positions rises) fails agrees e
+returns-clause-kept g c = λ about positions kept table fewer rises fails agrees e.
+    fd-kept (g.P.Property.holds about) fewer positions kept table (Ascends-from_increasing positions rises) fails agrees e
+
+pub returns-clause-holds : goal.returns-clause-holds
+returns-clause-holds g c = λ about positions kept table fewer rises empty fails agrees e.
+    IsKept-holds (g.P.Property.holds about) positions kept empty
+    (fd-kept (g.P.Property.holds about) fewer positions kept table (Ascends-from_increasing positions rises) fails agrees e)
+
+pub returns-clause-maximal : goal.returns-clause-maximal
+returns-clause-maximal g c = λ about positions kept table fewer rises fails agrees e.
+    IsKept-maximal (g.P.Property.holds about) fewer positions kept
+    (fd-kept (g.P.Property.holds about) fewer positions kept table (Ascends-from_increasing positions rises) fails agrees e)
 
 pub returns-clause-behind : goal.returns-clause-behind
-returns-clause-behind g c = λ about positions background kept table rises fails agrees e.
-    fd_behind-kept (g.P.Shrinking.holds about) (g.P.Shrinking.fewer about) positions background kept table (Ascends-from_increasing positions rises) fails agrees e
+returns-clause-behind g c = λ about positions background kept table fewer rises fails agrees e.
+    fd_behind-kept (g.P.Property.holds about) fewer positions background kept table (Ascends-from_increasing positions rises) fails agrees e
+
+pub returns-clause-behind_holds : goal.returns-clause-behind_holds
+returns-clause-behind_holds g c = λ about positions background kept table fewer rises some fails agrees e.
+    IsKept-holds (λ set. g.P.Property.holds about (union background set)) positions kept
+    (fewer (union background []) background (λ i m. rw append-nil at (union-within background [] i m)) some)
+    (fd_behind-kept (g.P.Property.holds about) fewer positions background kept table (Ascends-from_increasing positions rises) fails agrees e)
+
+pub returns-clause-behind_maximal : goal.returns-clause-behind_maximal
+returns-clause-behind_maximal g c = λ about positions background kept table fewer rises fails agrees e.
+    IsKept-maximal (λ set. g.P.Property.holds about (union background set)) (passes-behind (g.P.Property.holds about) fewer background) positions kept
+    (fd_behind-kept (g.P.Property.holds about) fewer positions background kept table (Ascends-from_increasing positions rises) fails agrees e)
 
 pub returns-clause-within : goal.returns-clause-within
 returns-clause-within g c = λ positions kept table e.

@@ -2,7 +2,8 @@ use Rattle.std.proofs.Common.{◌≡◌, List, ℕ, [], ◌++◌, length, sym, �
 use Rattle.pref_sets.specs.Answers.{Answer, IsToldInTurn}
 use Rattle.pref_sets.specs.QuickXplain.{qx}
 use Rattle.pref_sets.proofs.QuickXplainLaws.{qx_plan, qx_part-plan, qx_plan-most}
-use Rattle.pref_sets.proofs.PlanLaws.{Plan, over, AsksAtMost, AsksAtMost-weaker, over-stays}
+use Rattle.pref_sets.specs.Plan.{Plan, over}
+use Rattle.pref_sets.proofs.PlanLaws.{AsksAtMost, AsksAtMost-weaker, over-stays}
 use Rattle.pref_sets.proofs.TurnLaws.{IsToldInTurn-same, told-few, told-done, told-answered, told-once}
 use Rattle.pref_sets.proofs.recursions.qx_ends.Goals as goal
 

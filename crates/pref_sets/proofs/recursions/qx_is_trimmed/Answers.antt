@@ -1,6 +1,8 @@
 use Rattle.std.proofs.Common.{[], length, sym, ◌∙◌}
 use Rattle.pref_sets.specs.Preferred.{IsWithin}
 use Rattle.pref_sets.proofs.BestLaws.{IsTrimmed-holds, IsTrimmed-minimal}
+use Rattle.pref_sets.proofs.OnlyLaws.{IsTrimmed-only}
+use Rattle.pref_sets.proofs.PreferredLaws.{IsTrimmed-preferred}
 use Rattle.pref_sets.proofs.QuickXplainLaws.{qx_plan, qx_part-plan, qx_plan-within, qx_plan-ascends}
 use Rattle.pref_sets.proofs.TrimmedByHalves.{qx-trimmed, Fails, more-fails}
 use Rattle.pref_sets.proofs.PlanLaws.{AsksOnly-found}
@@ -9,22 +11,36 @@ use Rattle.lists.proofs.Members.{none as contains_none}
 use Rattle.pref_sets.proofs.recursions.qx_is_trimmed.Goals as goal
 
 pub returns-clause-trimmed : goal.returns-clause-trimmed
-returns-clause-trimmed g c = λ about positions left table rises empty agrees e.
-    qx-trimmed (g.P.Shrinking.holds about) (g.P.Shrinking.fewer about) positions left table (Ascends-from_increasing positions rises) empty agrees e
+returns-clause-trimmed g c = λ about positions left table fewer rises empty agrees e.
+    qx-trimmed (g.P.Property.holds about) fewer positions left table (Ascends-from_increasing positions rises) empty agrees e
 
 pub returns-clause-conflict : goal.returns-clause-conflict
-returns-clause-conflict g c = λ about positions left table rises fails empty agrees e.
-    let P = g.P.Shrinking.holds about in
+returns-clause-conflict g c = λ about positions left table fewer rises fails empty agrees e.
+    let P = g.P.Property.holds about in
     let ascends : Ascends positions = Ascends-from_increasing positions rises in
-    IsTrimmed-holds (Fails P (g.P.Shrinking.fewer about)) (more-fails P (g.P.Shrinking.fewer about)) positions left (IsDistinct-from_Ascends positions ascends) fails
-    (qx-trimmed P (g.P.Shrinking.fewer about) positions left table ascends empty agrees e)
+    IsTrimmed-holds (Fails P fewer) (more-fails P fewer) positions left (IsDistinct-from_Ascends positions ascends) fails
+    (qx-trimmed P fewer positions left table ascends empty agrees e)
 
 pub returns-clause-minimal : goal.returns-clause-minimal
-returns-clause-minimal g c = λ about positions left table rises empty agrees e.
-    let P = g.P.Shrinking.holds about in
+returns-clause-minimal g c = λ about positions left table fewer rises empty agrees e.
+    let P = g.P.Property.holds about in
     let ascends : Ascends positions = Ascends-from_increasing positions rises in
-    IsTrimmed-minimal (Fails P (g.P.Shrinking.fewer about)) (more-fails P (g.P.Shrinking.fewer about)) positions left (IsDistinct-from_Ascends positions ascends)
-    (qx-trimmed P (g.P.Shrinking.fewer about) positions left table ascends empty agrees e)
+    IsTrimmed-minimal (Fails P fewer) (more-fails P fewer) positions left (IsDistinct-from_Ascends positions ascends)
+    (qx-trimmed P fewer positions left table ascends empty agrees e)
+
+pub returns-clause-preferred : goal.returns-clause-preferred
+returns-clause-preferred g c = λ about positions left table fewer rises empty agrees e.
+    let P = g.P.Property.holds about in
+    let ascends : Ascends positions = Ascends-from_increasing positions rises in
+    IsTrimmed-preferred (Fails P fewer) (more-fails P fewer) positions left (IsDistinct-from_Ascends positions ascends)
+    (qx-trimmed P fewer positions left table ascends empty agrees e)
+
+pub returns-clause-only : goal.returns-clause-only
+returns-clause-only g c = λ about positions left table fewer rises fails empty agrees e.
+    let P = g.P.Property.holds about in
+    let ascends : Ascends positions = Ascends-from_increasing positions rises in
+    IsTrimmed-only (Fails P fewer) (more-fails P fewer) positions left (IsDistinct-from_Ascends positions ascends) fails
+    (qx-trimmed P fewer positions left table ascends empty agrees e)
 
 pub returns-clause-within : goal.returns-clause-within
 returns-clause-within g c = λ positions left table e.

@@ -1,6 +1,6 @@
 use Rattle.std.proofs.Common.{◌≡◌, ℕ, List, ◌↔◌, ◌++◌, length, take, vec_len, ◌∙◌, ap, sym, arith, rules}
 use Rattle.std.proofs.lemmas.Bool.{both_ways, eqb-true, not-false}
-use Rattle.pref_sets.specs.TrimmedBehind.{IsTrimmedBehind}
+use Rattle.pref_sets.specs.inside.TrimmedBehind.{IsTrimmedBehind}
 use Rattle.pref_sets.proofs.TrimLaws.{IsTrimmedBehind-none, IsTrimmedBehind-short, IsTrimmedBehind-halves, take-front, same_there_back, yes-of_first, no-of_rest}
 use Rattle.pref_sets.proofs.trimming.+trim_behind.Goals as goal
 

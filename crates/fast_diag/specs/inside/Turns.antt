@@ -1,7 +1,7 @@
 -- Which half is next.
 use Rattle.std.specs.Prelude.{◌≡◌, ℕ, ◌+◌, ◌<◌, ◌≤◌, true, Option, Some, None, List, [], reverse}
 use Rattle.req_keys.specs.Key.{PositionSet}
-use Rattle.fast_diag.specs.Remaining.{StandsAt, waiting, with_waiting}
+use Rattle.fast_diag.specs.inside.Remaining.{StandsAt, waiting, with_waiting}
 use Rattle.fast_diag.specs.declared.parts.Half.{Half}
 use Rattle.fast_diag.specs.declared.parts.Turn.{Turn}
 

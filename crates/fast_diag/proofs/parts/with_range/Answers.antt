@@ -1,10 +1,11 @@
 use Rattle.std.proofs.Common.{◌≡◌, ◌+◌, ◌≤◌, ◌++◌, refl, subst, arith}
 use Rattle.std.specs.Prelude.{IfOk}
+use Rattle.pref_sets.specs.Positions.{range}
+use Rattle.pref_sets.proofs.RisingPositions.{RiseWithin-of_range}
 use Rattle.req_keys.specs.Key.{PositionSet, union_of}
-use Rattle.fast_diag.specs.Diagnosing.{key_over}
-use Rattle.fast_diag.specs.Remaining.{range}
-use Rattle.fast_diag.proofs.RangeLaws.{union_of-behind, RiseWithin-of_range}
-use Rattle.fast_diag.proofs.ranges.with_range.Goals as goal
+use Rattle.req_keys.specs.Wanting.{key_over}
+use Rattle.req_keys.proofs.Rises.{union_of-behind}
+use Rattle.fast_diag.proofs.parts.with_range.Goals as goal
 
 pub returns : goal.returns
 returns c =

@@ -2,38 +2,17 @@
 use Rattle.std.proofs.Common.{◌≡◌, ℕ, zero, suc, ◌+◌, ◌<◌, ◌≤◌, ◌-◌, ◌/◌, Bool, true, false, List, [], ◌++◌, length, refl, sym, ◌∙◌, ap, subst, cond, arith, append_assoc, length-append}
 use Rattle.std.proofs.lemmas.List.{append-nil}
 use Rattle.std.proofs.lemmas.List.FromFn.{length-range_with_len}
-use Rattle.std.proofs.lemmas.Slice.Eq.{bytes_eq-Decides}
-use Rattle.pref_sets.specs.Answers.{same_set}
-use Rattle.pref_sets.proofs.PlanLaws.{Plan, found, asks, chain, AsksOnly, AsksOnly-chain}
+use Rattle.std.specs.Prelude.{◌==◌}
+use Rattle.std.proofs.lemmas.Bool.{eq-eqb}
+use Rattle.pref_sets.specs.Plan.{Plan, found, chain, AsksOnly, AsksOnce}
+use Rattle.pref_sets.specs.Positions.{range}
+use Rattle.pref_sets.proofs.PlanLaws.{AsksOnly-chain}
+use Rattle.pref_sets.proofs.PlansLeft.{AsksOnly-weaker, AsksOnce-chain}
+use Rattle.pref_sets.proofs.RisingPositions.{RiseWithin-of_range, range-parts}
 use Rattle.req_keys.specs.Positions.{RiseWithin}
-use Rattle.fast_diag.specs.Remaining.{range, unless_all, part_within}
-use Rattle.fast_diag.specs.Standing.{AsksOnce}
-use Rattle.fast_diag.proofs.PartLaws.{by_halves}
-use Rattle.fast_diag.proofs.RangeLaws.{RiseWithin-of_range, RiseWithin-append, RiseWithin-higher, range-parts}
-use Rattle.fast_diag.proofs.RiseLaws.{parted-same}
-
-pub AsksOnly-weaker : (A B R S : List ℕ → Type 0) (plan : Plan) → ((set : List ℕ) → A set → B set) → ((set : List ℕ) → R set → S set) → AsksOnly A R plan → AsksOnly B S plan
-AsksOnly-weaker A B R S (found set) f g h = g set h
-AsksOnly-weaker A B R S (asks set go) f g h = (f set h.0, λ sat. AsksOnly-weaker A B R S (go sat) f g (h.1 sat))
-
-pub AsksOnly-both : (A B R S : List ℕ → Type 0) (plan : Plan) → AsksOnly A R plan → AsksOnly B S plan → AsksOnly (λ set. A set × B set) R plan
-AsksOnly-both A B R S (found set) h k = h
-AsksOnly-both A B R S (asks set go) h k = ((h.0, k.0), λ sat. AsksOnly-both A B R S (go sat) (h.1 sat) (k.1 sat))
-
-pub AsksOnly-any : (A : List ℕ → Type 0) (plan : Plan) → ((set : List ℕ) → A set) → AsksOnly A (λ set. Unit {0}) plan
-AsksOnly-any A (found set) h = tt
-AsksOnly-any A (asks set go) h = (h set, λ sat. AsksOnly-any A (go sat) h)
-
--- one plan after another, where the later one asks other sets
-AsksOnce-chain : (A Q : List ℕ → Type 0) (plan : Plan) (follow : List ℕ → Plan) → AsksOnce plan → AsksOnly A Q plan → ((set : List ℕ) → Q set → AsksOnce (follow set)) → ((set : List ℕ) → Q set → AsksOnly (λ other. ¬ A other) (λ kept. Unit {0}) (follow set)) → AsksOnce (chain plan follow)
-AsksOnce-chain A Q (found set) follow once h k apart = k set h
-AsksOnce-chain A Q (asks set go) follow once h k apart = λ sat.
-    let others : AsksOnly (λ other. ¬ other ≡ set) (λ kept. Unit {0}) (go sat) = (once sat).0 in (
-      AsksOnly-chain (λ other. ¬ other ≡ set) Q (λ kept. Unit {0}) (go sat) follow
-          (AsksOnly-weaker (λ other. A other × (¬ other ≡ set)) (λ other. ¬ other ≡ set) Q Q (go sat) (λ other both. both.1) (λ other q. q) (AsksOnly-both A (λ other. ¬ other ≡ set) Q (λ kept. Unit {0}) (go sat) (h.1 sat) others))
-          (λ end q. AsksOnly-weaker (λ other. ¬ A other) (λ other. ¬ other ≡ set) (λ kept. Unit {0}) (λ kept. Unit {0}) (follow end) (λ other no same. no (subst A (sym same) h.0)) (λ other u. u) (apart end q)),
-      AsksOnce-chain A Q (go sat) follow (once sat).1 (h.1 sat) k apart,
-    )
+use Rattle.req_keys.proofs.Rises.{RiseWithin-append, RiseWithin-higher, parted-same}
+use Rattle.fast_diag.specs.inside.Remaining.{unless_all, part_within}
+use Rattle.fast_diag.proofs.PartPlan.{by_halves}
 
 -- what is kept, and more positions above it
 pub record Grows (kept : List ℕ) (before high : ℕ) (set : List ℕ) : Type 0 where
@@ -102,7 +81,7 @@ module _ (kept : List ℕ) (before half rest : ℕ) (h : RiseWithin 0 before kep
     rises = RiseWithin-append before (before + half) ((before + half) + rest) g.more k.more g.rises k.rises (omega arith) (omega arith);
   }
 
-  upper-asked : (lower set : List ℕ) → Grows kept before (before + half) lower → AskedOf lower (before + half) rest (same_set lower (kept ++ range before half)) set → GrowsBySome kept before ((before + half) + rest) set × (¬ set ≡ kept ++ (range before half ++ range (before + half) rest))
+  upper-asked : (lower set : List ℕ) → Grows kept before (before + half) lower → AskedOf lower (before + half) rest (length lower == length kept + half) set → GrowsBySome kept before ((before + half) + rest) set × (¬ set ≡ kept ++ (range before half ++ range (before + half) rest))
   upper-asked lower set g k = (
     record {
       more = g.more ++ k.0.more;
@@ -115,36 +94,36 @@ module _ (kept : List ℕ) (before half rest : ℕ) (h : RiseWithin 0 before kep
         let both : (lower ≡ kept ++ range before half) × (k.0.more ≡ range (before + half) rest) =
         parted-same (before + half) 0 0 ((before + half) + rest) ((before + half) + rest) lower k.0.more (kept ++ range before half) (range (before + half) rest)
         (Grows-rises kept before (before + half) lower (omega arith) h g) below k.0.rises (RiseWithin-of_range (before + half) rest) (sym k.0.same ∙ apart) in
-        k.1 ((bytes_eq-Decides lower (kept ++ range before half)).1 both.0) (k.0.same ∙ ap (λ (t : List ℕ). lower ++ t) both.1)),
+        k.1 (eq-eqb (length lower) (length kept + half) (ap length both.0 ∙ length-append kept (range before half) ∙ ap (λ m. length kept + m) (length-range_with_len (before + 1) half))) (k.0.same ∙ ap (λ (t : List ℕ). lower ++ t) both.1)),
   )
 
   -- what the halves ask, each by itself right
   halves-ask : (next : List ℕ → ℕ → ℕ → Bool → Plan) → 0 < rest → AsksOf next →
       AsksOnly (λ set. GrowsBySome kept before ((before + half) + rest) set × (¬ set ≡ kept ++ (range before half ++ range (before + half) rest))) (Grows kept before ((before + half) + rest))
-      (chain (next kept before half false) (λ lower. next lower (before + half) rest (same_set lower (kept ++ range before half))))
+      (chain (next kept before half false) (λ lower. next lower (before + half) rest (length lower == length kept + half)))
   halves-ask next l ih =
-      AsksOnly-chain (λ set. GrowsBySome kept before ((before + half) + rest) set × (¬ set ≡ kept ++ (range before half ++ range (before + half) rest))) (Grows kept before (before + half)) (Grows kept before ((before + half) + rest)) (next kept before half false) (λ lower. next lower (before + half) rest (same_set lower (kept ++ range before half)))
+      AsksOnly-chain (λ set. GrowsBySome kept before ((before + half) + rest) set × (¬ set ≡ kept ++ (range before half ++ range (before + half) rest))) (Grows kept before (before + half)) (Grows kept before ((before + half) + rest)) (next kept before half false) (λ lower. next lower (before + half) rest (length lower == length kept + half))
       (AsksOnly-weaker (AskedOf kept before half false) (λ set. GrowsBySome kept before ((before + half) + rest) set × (¬ set ≡ kept ++ (range before half ++ range (before + half) rest))) (Grows kept before (before + half)) (Grows kept before (before + half)) (next kept before half false) (λ set asked. lower-asked set l asked.0) (λ set g. g) (ih kept before half false h))
       (λ lower g.
-      AsksOnly-weaker (AskedOf lower (before + half) rest (same_set lower (kept ++ range before half))) (λ set. GrowsBySome kept before ((before + half) + rest) set × (¬ set ≡ kept ++ (range before half ++ range (before + half) rest))) (Grows lower (before + half) ((before + half) + rest)) (Grows kept before ((before + half) + rest)) (next lower (before + half) rest (same_set lower (kept ++ range before half)))
+      AsksOnly-weaker (AskedOf lower (before + half) rest (length lower == length kept + half)) (λ set. GrowsBySome kept before ((before + half) + rest) set × (¬ set ≡ kept ++ (range before half ++ range (before + half) rest))) (Grows lower (before + half) ((before + half) + rest)) (Grows kept before ((before + half) + rest)) (next lower (before + half) rest (length lower == length kept + half))
       (λ set asked. upper-asked lower set g asked) (λ set k. upper-grows lower set g k)
-      (ih lower (before + half) rest (same_set lower (kept ++ range before half)) (Grows-rises kept before (before + half) lower (omega arith) h g)))
+      (ih lower (before + half) rest (length lower == length kept + half) (Grows-rises kept before (before + half) lower (omega arith) h g)))
 
   -- the upper half asks other sets than the lower half
   halves-once : (next : List ℕ → ℕ → ℕ → Bool → Plan) → AsksOf next → ((kept : List ℕ) (before length : ℕ) (known : Bool) → RiseWithin 0 before kept → AsksOnce (next kept before length known)) →
-      AsksOnce (chain (next kept before half false) (λ lower. next lower (before + half) rest (same_set lower (kept ++ range before half))))
+      AsksOnce (chain (next kept before half false) (λ lower. next lower (before + half) rest (length lower == length kept + half)))
   halves-once next ih once =
-      AsksOnce-chain (RiseWithin 0 (before + half)) (Grows kept before (before + half)) (next kept before half false) (λ lower. next lower (before + half) rest (same_set lower (kept ++ range before half)))
+      AsksOnce-chain (RiseWithin 0 (before + half)) (Grows kept before (before + half)) (next kept before half false) (λ lower. next lower (before + half) rest (length lower == length kept + half))
       (once kept before half false h)
       (AsksOnly-weaker (AskedOf kept before half false) (RiseWithin 0 (before + half)) (Grows kept before (before + half)) (Grows kept before (before + half)) (next kept before half false)
       (λ set asked. subst (RiseWithin 0 (before + half)) (sym asked.0.same) (RiseWithin-append 0 before (before + half) kept asked.0.more h asked.0.rises (omega arith) (omega arith)))
       (λ set g. g) (ih kept before half false h))
-      (λ lower g. once lower (before + half) rest (same_set lower (kept ++ range before half)) (Grows-rises kept before (before + half) lower (omega arith) h g))
+      (λ lower g. once lower (before + half) rest (length lower == length kept + half) (Grows-rises kept before (before + half) lower (omega arith) h g))
       (λ lower g.
-      AsksOnly-weaker (AskedOf lower (before + half) rest (same_set lower (kept ++ range before half))) (λ set. ¬ RiseWithin 0 (before + half) set) (Grows lower (before + half) ((before + half) + rest)) (λ set. Unit {0}) (next lower (before + half) rest (same_set lower (kept ++ range before half)))
+      AsksOnly-weaker (AskedOf lower (before + half) rest (length lower == length kept + half)) (λ set. ¬ RiseWithin 0 (before + half) set) (Grows lower (before + half) ((before + half) + rest)) (λ set. Unit {0}) (next lower (before + half) rest (length lower == length kept + half))
       (λ set asked low. none_above (before + half) ((before + half) + rest) set lower asked.0.more low (Grows-rises kept before (before + half) lower (omega arith) h g) asked.0.rises asked.0.some asked.0.same)
       (λ set k. tt)
-      (ih lower (before + half) rest (same_set lower (kept ++ range before half)) (Grows-rises kept before (before + half) lower (omega arith) h g)))
+      (ih lower (before + half) rest (length lower == length kept + half) (Grows-rises kept before (before + half) lower (omega arith) h g)))
 
 -- a range that may be asked
 unless-asks : (kept : List ℕ) (before length : ℕ) (known : Bool) (left : Plan) → 0 < length → AsksOnly (λ set. GrowsBySome kept before (before + length) set × (¬ set ≡ kept ++ range before length)) (Grows kept before (before + length)) left → AsksOnly (AskedOf kept before length known) (Grows kept before (before + length)) (unless_all (kept ++ range before length) known left)

@@ -1,37 +1,53 @@
 -- The plan of a part over a table is FastDiag over it.
-use Rattle.std.proofs.Common.{◌≡◌, ℕ, zero, suc, ◌+◌, ◌-◌, ◌/◌, Bool, true, false, Option, Some, None, List, [], ◌∷◌, ◌++◌, refl, sym, ◌∙◌, ap, arith, append_assoc}
+use Rattle.std.proofs.Common.{◌≡◌, ℕ, zero, suc, ◌+◌, ◌-◌, ◌/◌, Bool, true, false, Option, Some, None, List, [], ◌++◌, length, refl, sym, ◌∙◌, ap, arith, append_assoc, length-append}
+use Rattle.std.specs.Prelude.{◌==◌}
 use Rattle.std.specs.List.{range_with_len}
 use Rattle.std.proofs.lemmas.List.{append-nil}
 use Rattle.std.proofs.lemmas.List.FromFn.{length-range_with_len}
 use Rattle.std.proofs.lemmas.List.Elements.{Contains-append_left, Contains-append_right}
-use Rattle.std.proofs.lemmas.Bool.{eq-eqb}
+use Rattle.std.proofs.lemmas.Bool.{eq-eqb, eqb-true}
+use Rattle.std.proofs.lemmas.Slice.Eq.{bytes_eq-Decides}
 use Rattle.pref_sets.specs.Answers.{Answer, Next, Ask, Done, same_set, answer_to, by_answer, and_then}
 use Rattle.pref_sets.specs.FastDiag.{fd, fd_part, unless_sat}
-use Rattle.pref_sets.specs.Positions.{union, lower_half, upper_half}
+use Rattle.pref_sets.specs.Positions.{union, lower_half, upper_half, range}
 use Rattle.pref_sets.specs.Preferred.{IsWithin}
 use Rattle.pref_sets.proofs.FastDiagLaws.{fd_plan, fd_part-plan, fd_plan-within, fd_plan-ascends}
-use Rattle.pref_sets.proofs.PlanLaws.{Plan, found, over, chain, over-chain, AsksOnly-found}
+use Rattle.pref_sets.specs.Plan.{Plan, found, over, chain}
+use Rattle.pref_sets.proofs.PlanLaws.{over-chain, AsksOnly-found}
 use Rattle.pref_sets.proofs.PositionLaws.{Ascends}
 use Rattle.req_keys.specs.Positions.{RiseWithin}
-use Rattle.fast_diag.specs.Remaining.{range, unless_all, part_within, part_plan}
-use Rattle.fast_diag.proofs.PartLaws.{by_halves}
-use Rattle.fast_diag.proofs.RangeLaws.{RiseWithin-of_range, RiseWithin-append, lower_half-range, upper_half-range}
-use Rattle.fast_diag.proofs.RiseLaws.{members-within, Ascends-from_rises, rises-from_Ascends, union-above}
+use Rattle.fast_diag.specs.inside.Remaining.{unless_all, part_within, part_plan}
+use Rattle.pref_sets.proofs.RisingPositions.{RiseWithin-of_range, Ascends-from_rises, rises-from_Ascends, union-above, lower_half-range, upper_half-range}
+use Rattle.req_keys.proofs.Rises.{RiseWithin-append, members-within, rises-all}
+use Rattle.fast_diag.proofs.PartPlan.{by_halves}
 
-same_set-behind : (kept a b : List ℕ) → same_set (kept ++ a) (kept ++ b) ≡ same_set a b
-same_set-behind [] a b = refl
-same_set-behind (x ∷ kept) a b = rw (eq-eqb x x refl) (same_set-behind kept a b)
+-- the number of kept positions tells whether all of a range is kept
+same_bool : (a b : Bool) → (a ≡ true → b ≡ true) → (b ≡ true → a ≡ true) → a ≡ b
+same_bool true b f g = sym (f refl)
+same_bool false true f g = g refl
+same_bool false false f g = refl
+
+all-kept : (kept lower : List ℕ) (before half : ℕ) → RiseWithin before (before + half) lower → (length (kept ++ lower) == length kept + half) ≡ same_set lower (range before half)
+all-kept kept lower before half h =
+    let both : length (kept ++ lower) ≡ length kept + length lower = length-append kept lower in
+    same_bool (length (kept ++ lower) == length kept + half) (same_set lower (range before half))
+    (λ e.
+    let as_many : length (kept ++ lower) ≡ length kept + half = eqb-true (length (kept ++ lower)) (length kept + half) e in
+    (bytes_eq-Decides lower (range before half)).1 (rises-all before half lower h (omega arith)))
+    (λ e.
+    let same : length lower ≡ half = ap length ((bytes_eq-Decides lower (range before half)).0 e) ∙ length-range_with_len (before + 1) half in
+    eq-eqb (length (kept ++ lower)) (length kept + half) (omega arith))
 
 -- what is kept of a range rises within it
-found-rises : (count : ℕ) (table : List Answer) (kept : List ℕ) (before length : ℕ) (known : Bool) (set : List ℕ) → fd_part count table (range before length) kept known ≡ Done set → RiseWithin before (before + length) set
-found-rises count table kept before length known set e =
-    let on : over table (fd_plan count (range before length) kept known) ≡ Done set = sym (fd_part-plan count table (range before length) kept known) ∙ e in
-    rises-from_Ascends before (before + length) set
-    (AsksOnly-found Ascends Ascends table (fd_plan count (range before length) kept known) (fd_plan-ascends count (range before length) kept known (Ascends-from_rises before (before + length) (range before length) (RiseWithin-of_range before length))) set on)
+found-rises : (count : ℕ) (table : List Answer) (kept : List ℕ) (before size : ℕ) (known : Bool) (set : List ℕ) → fd_part count table (range before size) kept known ≡ Done set → RiseWithin before (before + size) set
+found-rises count table kept before size known set e =
+    let on : over table (fd_plan count (range before size) kept known) ≡ Done set = sym (fd_part-plan count table (range before size) kept known) ∙ e in
+    rises-from_Ascends before (before + size) set
+    (AsksOnly-found Ascends Ascends table (fd_plan count (range before size) kept known) (fd_plan-ascends count (range before size) kept known (Ascends-from_rises before (before + size) (range before size) (RiseWithin-of_range before size))) set on)
     (λ y m.
-    members-within before (before + length) (range before length) (RiseWithin-of_range before length) y
-    (AsksOnly-found (λ set. IsWithin set (kept ++ range before length)) (λ set. IsWithin set (range before length)) table (fd_plan count (range before length) kept known)
-    (fd_plan-within (kept ++ range before length) count (range before length) kept known (λ i n. Contains-append_left kept (range before length) i n) (λ i n. Contains-append_right kept (range before length) i n))
+    members-within before (before + size) (range before size) (RiseWithin-of_range before size) y
+    (AsksOnly-found (λ set. IsWithin set (kept ++ range before size)) (λ set. IsWithin set (range before size)) table (fd_plan count (range before size) kept known)
+    (fd_plan-within (kept ++ range before size) count (range before size) kept known (λ i n. Contains-append_left kept (range before size) i n) (λ i n. Contains-append_right kept (range before size) i n))
     set on y m))
 
 -- a part is done with what is kept together
@@ -65,27 +81,27 @@ lower-onto kept (Ask set) follow other h = refl
 lower-onto kept (Done lower) follow other h = h lower refl
 
 -- the halves, where each part agrees
-module _ (table : List Answer) (count : ℕ) (ih : (kept : List ℕ) (before length : ℕ) (known : Bool) → RiseWithin 0 before kept → over table (part_within count kept before length known) ≡ onto kept (fd_part count table (range before length) kept known)) where
-  upper : (kept : List ℕ) (before : ℕ) (h : RiseWithin 0 before kept) (half rest : ℕ) (lower : List ℕ) → fd_part count table (range before half) kept false ≡ Done lower → over table (part_within count (kept ++ lower) (before + half) rest (same_set (kept ++ lower) (kept ++ range before half))) ≡ onto kept (and_then (fd_part count table (range (before + half) rest) (union kept lower) (same_set lower (range before half))) (λ upper. Done (union lower upper)))
+module _ (table : List Answer) (count : ℕ) (ih : (kept : List ℕ) (before size : ℕ) (known : Bool) → RiseWithin 0 before kept → over table (part_within count kept before size known) ≡ onto kept (fd_part count table (range before size) kept known)) where
+  upper : (kept : List ℕ) (before : ℕ) (h : RiseWithin 0 before kept) (half rest : ℕ) (lower : List ℕ) → fd_part count table (range before half) kept false ≡ Done lower → over table (part_within count (kept ++ lower) (before + half) rest (length (kept ++ lower) == length kept + half)) ≡ onto kept (and_then (fd_part count table (range (before + half) rest) (union kept lower) (same_set lower (range before half))) (λ upper. Done (union lower upper)))
   upper kept before h half rest lower e =
       let rises : RiseWithin before (before + half) lower = found-rises count table kept before half false lower e in
-      let flag : same_set (kept ++ lower) (kept ++ range before half) ≡ same_set lower (range before half) = same_set-behind kept lower (range before half) in
-      ih (kept ++ lower) (before + half) rest (same_set (kept ++ lower) (kept ++ range before half)) (RiseWithin-append 0 before (before + half) kept lower h rises (omega arith) (omega arith))
+      let flag : (length (kept ++ lower) == length kept + half) ≡ same_set lower (range before half) = all-kept kept lower before half rises in
+      ih (kept ++ lower) (before + half) rest (length (kept ++ lower) == length kept + half) (RiseWithin-append 0 before (before + half) kept lower h rises (omega arith) (omega arith))
       ∙ ap (λ k. onto (kept ++ lower) (fd_part count table (range (before + half) rest) (kept ++ lower) k)) flag
       ∙ upper-onto kept lower before (before + half) ((before + half) + rest) (fd_part count table (range (before + half) rest) (kept ++ lower) (same_set lower (range before half))) rises
       (λ upper e. found-rises count table (kept ++ lower) (before + half) rest (same_set lower (range before half)) upper e)
       ∙ ap (λ (background : List ℕ). onto kept (and_then (fd_part count table (range (before + half) rest) background (same_set lower (range before half))) (λ upper. Done (union lower upper)))) (sym (union-above 0 before (before + half) kept lower h rises))
 
-  halves : (kept : List ℕ) (before : ℕ) (h : RiseWithin 0 before kept) (half rest : ℕ) → over table (chain (part_within count kept before half false) (λ lower. part_within count lower (before + half) rest (same_set lower (kept ++ range before half)))) ≡ onto kept (halves_next count table kept (range before half) (range (before + half) rest))
+  halves : (kept : List ℕ) (before : ℕ) (h : RiseWithin 0 before kept) (half rest : ℕ) → over table (chain (part_within count kept before half false) (λ lower. part_within count lower (before + half) rest (length lower == length kept + half))) ≡ onto kept (halves_next count table kept (range before half) (range (before + half) rest))
   halves kept before h half rest =
-      over-chain table (part_within count kept before half false) (λ lower. part_within count lower (before + half) rest (same_set lower (kept ++ range before half)))
-      ∙ ap (λ (next : Next). and_then next (λ lower. over table (part_within count lower (before + half) rest (same_set lower (kept ++ range before half))))) (ih kept before half false h)
-      ∙ lower-onto kept (fd_part count table (range before half) kept false) (λ lower. over table (part_within count lower (before + half) rest (same_set lower (kept ++ range before half))))
+      over-chain table (part_within count kept before half false) (λ lower. part_within count lower (before + half) rest (length lower == length kept + half))
+      ∙ ap (λ (next : Next). and_then next (λ lower. over table (part_within count lower (before + half) rest (length lower == length kept + half)))) (ih kept before half false h)
+      ∙ lower-onto kept (fd_part count table (range before half) kept false) (λ lower. over table (part_within count lower (before + half) rest (length lower == length kept + half)))
       (λ lower. and_then (fd_part count table (range (before + half) rest) (union kept lower) (same_set lower (range before half))) (λ upper. Done (union lower upper)))
       (λ lower e. upper kept before h half rest lower e)
 
-pub agree : (table : List Answer) (count : ℕ) (kept : List ℕ) (before length : ℕ) (known : Bool) → RiseWithin 0 before kept → over table (part_within count kept before length known) ≡ onto kept (fd_part count table (range before length) kept known)
-agree table zero kept before length known h = ap Done (sym (append-nil kept))
+pub agree : (table : List Answer) (count : ℕ) (kept : List ℕ) (before size : ℕ) (known : Bool) → RiseWithin 0 before kept → over table (part_within count kept before size known) ≡ onto kept (fd_part count table (range before size) kept known)
+agree table zero kept before size known h = ap Done (sym (append-nil kept))
 agree table (suc count) kept before zero known h = ap Done (sym (append-nil kept))
 agree table (suc count) kept before (suc zero) known h =
     unless-onto table (range before 1) kept known (found kept) (Done []) (union-above 0 before (before + 1) kept (range before 1) h (RiseWithin-of_range before 1)) (ap Done (sym (append-nil kept)))
