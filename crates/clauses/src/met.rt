@@ -1,6 +1,7 @@
 //! Which requirements can be met together, and what a verdict says of it.
 ghost use Rattle.std.specs.Prelude.{◌≡◌, ◌↔◌, ◌++◌, All, Bool, IsSome, List, Some, length, ℕ};
 ghost use Rattle.pref_sets.specs.Preferred.{IsWithin};
+ghost use Rattle.pref_sets.specs.Properties.{PassesToFewer};
 ghost use Rattle.req_keys.specs.Key.{PositionSet};
 ghost use Rattle.req_keys.specs.declared.verdict.Verdict.TheVariants as verdict;
 ghost use Rattle.clauses.specs.declared.literal.Lit.{Lit};
@@ -9,9 +10,20 @@ ghost use Rattle.clauses.specs.Met.{AgreeBelow, IsMet};
 ghost use Rattle.clauses.specs.Problem.{ClauseProblem, IsBelow, IsProblem};
 ghost use Rattle.clauses.specs.Search.{verdict_on};
 
+use crate::problem::Problem;
+use pref_sets::Property;
+
+/// Requirements at some positions are consistent with a problem where they can be met together.
+impl Property for Problem {
+    ghost use Rattle.clauses.specs.Met.{AreMet};
+
+    ghost holds = { AreMet };
+}
+
 /// Where requirements can be met together, any of them can.
 pub fn fewer_requirements_are_met()
-    ensures { (problem : ClauseProblem) (a b : PositionSet) → IsWithin a.members b.members → IsMet problem b → IsMet problem a }
+    ensures keys { (problem : ClauseProblem) (a b : PositionSet) → IsWithin a.members b.members → IsMet problem b → IsMet problem a }
+    ensures passes { (problem : Problem) → PassesToFewer (⟦<Problem as Property>⟧.holds problem) }
 {}
 
 /// There always is a verdict. Sat comes only where the requirements can be met, and Unsat only where they can't. Unless

@@ -8,6 +8,7 @@ use req_keys::Key;
 use std::alloc::{AllocError, Global};
 use std::test::Fail;
 
+/// The problem of the row.
 fn problem_of(alloc: Global, row: &Row) -> Result<Problem, AllocError>
     ensures { IfOk result (λ problem. problem.variables ≡ 6) }
 {
@@ -25,6 +26,7 @@ fn problem_of(alloc: Global, row: &Row) -> Result<Problem, AllocError>
     })
 }
 
+/// Lines, and what they are.
 #[derive(Clone, Copy)]
 struct Row {
     clauses: &'static [&'static str],
@@ -45,10 +47,12 @@ const CUBE: &[&str] = &["a", "bcd", "bcD", "bCd", "bCD", "Bcd", "BcD", "BCd", "B
 /// Where a and b are true, each choice of c and d is forbidden.
 const UNDER_BOTH: &[&str] = &["ABcd", "ABcD", "ABCd", "ABCD"];
 
+/// A row without roots.
 fn plain(clauses: &'static [&'static str], lines: &'static [&'static str], answer: Checked) -> Row {
     rooted(clauses, b"  ", false, lines, answer)
 }
 
+/// A row with two roots.
 fn rooted(
     clauses: &'static [&'static str],
     roots: &'static [u8; 2],
@@ -65,6 +69,7 @@ fn rooted(
     }
 }
 
+/// Worked by hand.
 fn rows() -> [Row; 24] {
     [
         plain(FORBIDDEN, &["b", ""], Checked::Yes),
@@ -101,6 +106,7 @@ fn rows() -> [Row; 24] {
     ]
 }
 
+/// All requirements or none.
 fn key_of(alloc: Global, row: &Row, problem: &Problem) -> Result<Key, AllocError>
     ensures { IfOk result (λ key. key.n ≡ length problem.now.roots) }
 {

@@ -6,6 +6,7 @@ use clauses::{Clauses, Lits, Problem, clause_of, clauses_of, literal_of};
 use req_keys::Key;
 use std::alloc::{AllocError, Global};
 
+/// The problem of the words, without roots.
 fn problem_of(alloc: Global, words: &[&str]) -> Result<Problem, AllocError>
     ensures { IfOk result (λ problem. problem.variables ≡ 4) }
 {
@@ -18,6 +19,7 @@ fn problem_of(alloc: Global, words: &[&str]) -> Result<Problem, AllocError>
     })
 }
 
+/// A propagator, and the values that it tells.
 struct Row {
     clauses: &'static [&'static str],
     learned: &'static [&'static str],
@@ -27,6 +29,7 @@ struct Row {
     values: &'static [u8; 4],
 }
 
+/// A value as a letter.
 fn sign_of(value: Option<bool>) -> u8 {
     match value {
         Some(true) => b'1',
@@ -35,6 +38,7 @@ fn sign_of(value: Option<bool>) -> u8 {
     }
 }
 
+/// The values of all variables, or exclamation marks.
 fn signs_of(propagator: &Propagator<'_>) -> [u8; 4]
     requires { propagator.now.problem.variables ≡ 4 }
 {
@@ -49,6 +53,7 @@ fn signs_of(propagator: &Propagator<'_>) -> [u8; 4]
     ]
 }
 
+/// Those of the propagator of the row.
 fn signs_at(alloc: Global, row: &Row) -> Result<[u8; 4], AllocError> {
     let problem = problem_of(alloc, row.clauses)?;
     let mut propagator = Propagator::new(alloc, &problem)?;
@@ -64,6 +69,7 @@ fn signs_at(alloc: Global, row: &Row) -> Result<[u8; 4], AllocError> {
     Ok(signs_of(&propagator))
 }
 
+/// Worked by hand.
 const ROWS: [Row; 14] = [
     // no clauses, and a variable in none of them
     Row {

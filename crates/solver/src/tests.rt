@@ -11,6 +11,7 @@ fn letter_of(literal: &Lit) -> char {
     letters.chars().nth(literal.var as usize).unwrap_or('?')
 }
 
+/// The problem of the row.
 fn problem_of(alloc: Global, row: &Row) -> Result<Problem, AllocError> {
     let mut roots = Lits::new(alloc);
     if row.roots != b"  " {
@@ -26,6 +27,7 @@ fn problem_of(alloc: Global, row: &Row) -> Result<Problem, AllocError> {
     })
 }
 
+/// A search, and how it ends.
 #[derive(Clone, Copy)]
 struct Row {
     clauses: &'static [&'static str],
@@ -47,6 +49,7 @@ const ONE_OF_TWO: &[&str] = &["bde", "bdE"];
 /// a, c or e must be true, and a where e is.
 const THREE_NEEDED: &[&str] = &["acef", "aceF", "aEf", "aEF"];
 
+/// A row without roots.
 fn plain(clauses: &'static [&'static str], allowance: u8, answer: &'static str) -> Row {
     Row {
         clauses,
@@ -57,6 +60,7 @@ fn plain(clauses: &'static [&'static str], allowance: u8, answer: &'static str) 
     }
 }
 
+/// A row with two roots, in which nothing may be learned.
 fn rooted(
     clauses: &'static [&'static str],
     roots: &'static [u8; 2],
@@ -72,6 +76,7 @@ fn rooted(
     }
 }
 
+/// Worked by hand.
 fn rows() -> [Row; 19] {
     [
         plain(&[], 0, "000000"),
@@ -97,6 +102,7 @@ fn rows() -> [Row; 19] {
     ]
 }
 
+/// Writes a digit for each value.
 fn show_values(out: &mut String, values: &Assignment) -> Result<(), Fail> {
     for value in values.as_slice() {
         write!(out, "{}", u8::from(*value))?;
@@ -104,6 +110,7 @@ fn show_values(out: &mut String, values: &Assignment) -> Result<(), Fail> {
     Ok(())
 }
 
+/// Writes the letters of the line.
 fn show_line(out: &mut String, line: &Clause) -> Result<(), Fail> {
     for literal in line.as_slice() {
         write!(out, "{}", letter_of(literal))?;
@@ -112,6 +119,7 @@ fn show_line(out: &mut String, line: &Clause) -> Result<(), Fail> {
     Ok(())
 }
 
+/// Writes all lines.
 fn show_lines(out: &mut String, lines: &Clauses) -> Result<(), Fail> {
     for line in lines.as_slice() {
         show_line(out, line)?;
@@ -119,6 +127,7 @@ fn show_lines(out: &mut String, lines: &Clauses) -> Result<(), Fail> {
     Ok(())
 }
 
+/// How the search of the row ends, as text.
 fn shown<S: Stop>(alloc: Global, row: &Row, stop: &mut S) -> Result<String, Fail> {
     let problem = problem_of(alloc, row)?;
     let key = if row.with_roots {
