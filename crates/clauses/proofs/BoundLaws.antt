@@ -1,20 +1,20 @@
 -- At most 2 ^ v - 1 clauses are learned over v variables, so an allowance of that many is never spent.
 use Rattle.std.proofs.Common.{◌≡◌, ◌∙◌, refl, sym, ap, subst, ⊎_elim, ℕ, zero, suc, ◌+◌, ◌^◌, ◌<◌, ◌≤◌, Bool, true, false, cond, not, eqb, List, [], ◌∷◌, ◌++◌, map, length, reverse, Some, arith}
 use Rattle.std.specs.Prelude.{Contains}
-use Rattle.std.specs.List.{range_with_len}
 use Rattle.std.proofs.lemmas.Bool.{false≢true, and_parts, eqb-true, cases_eq, false_from_ne_true}
 use Rattle.std.proofs.lemmas.List.{length_push}
-use Rattle.std.proofs.lemmas.List.FromFn.{get_or-range_with_len, length-range_with_len}
 use Rattle.std.proofs.lemmas.List.Elements.{Contains-append_left, Contains-push, Contains-push_cases}
 use Rattle.clauses.specs.declared.literal.Lit.{Lit}
 use Rattle.clauses.specs.Clause.{positive_of}
 use Rattle.clauses.specs.Closure.{closure, clash}
-use Rattle.clauses.specs.Search.{Limit, Standing, Turn, GoesOn, Ends, under, all_false, some_true, clashing, cut_after, turn, start, standing_after, answer_within, NameTheSame, NameOthers}
+use Rattle.clauses.specs.Search.{Limit, Standing, Turn, GoesOn, Ends, under, all_false, some_true, needed_decisions, cut_after, turn, start, standing_after, answer_within, NameTheSame, NameOthers}
 use Rattle.lists.proofs.Members.{none, first, later, first_or_later, from_map, to_map}
-use Rattle.clauses.proofs.TurnLaws.{IsTurn, answers, decides, refutes, gives_up, learns, turn_is, reached, ended}
+use Rattle.lists.proofs.RangeMembers.{range-below}
+use Rattle.clauses.proofs.TurnLaws.{IsTurn, answers, decides, refutes, gives_up, adds_clause, turn_is, reached, ended}
 use Rattle.clauses.proofs.EnoughLaws.{among, among-from, from_among, open-parts}
 use Rattle.clauses.proofs.TrimmedLaws.{trimmed-within}
-use Rattle.clauses.proofs.StandingLaws.{IsGood, good_next, start-good, cut-within}
+use Rattle.clauses.proofs.Cuts.{cut-within}
+use Rattle.clauses.proofs.StandingLaws.{IsGood, good_next, start-good}
 use Rattle.clauses.proofs.Subsets.{agree, Differ, differ-most}
 
 -- ---- the variables of a clause as a set
@@ -81,15 +81,6 @@ pub record IsLow (v : ℕ) (s : Standing) : Type 0 where
   pub decided : (x : ℕ) → Contains s.decisions x → x < v
   pub learned : (e : List Lit) → Contains s.learned e → Below v e
 
-in_range-below : (v x : ℕ) → Contains (range_with_len 0 v) x → x < v
-in_range-below v x m =
-    let size : length (range_with_len 0 v) ≡ v = length-range_with_len 0 v in
-    let within : m.0 < length (range_with_len 0 v) = m.1 in
-    let less : m.0 < v = omega arith in
-    let value = get_or-range_with_len 0 v m.0 x less in
-    let same = sym value ∙ m.2 in
-    omega arith
-
 module _ (clauses : List (List Lit)) (v a : ℕ) (s : Standing) (low : IsLow v s) where
   low_next : (t : Standing) (r : Turn) → r ≡ GoesOn t → IsTurn clauses v a s r → IsLow v t
   low_next t r e (answers c o q) = absurd (cc)
@@ -98,14 +89,14 @@ module _ (clauses : List (List Lit)) (v a : ℕ) (s : Standing) (low : IsLow v s
       subst (IsLow v) same (record {
         decided = λ y m. ⊎_elim
             (λ (old : Contains s.decisions y). low.decided y old)
-            (λ (h : x ≡ y). subst (λ z. z < v) h (in_range-below v x (open-parts v (closure (under clauses s)) x xs o).0))
+            (λ (h : x ≡ y). subst (λ z. z < v) h (range-below v x (open-parts v (closure (under clauses s)) x xs o).0))
             (Contains-push_cases s.decisions x y m);
         learned = low.learned;
       })
   low_next t r e (refutes c o q) = absurd (cc)
   low_next t r e (gives_up c x xs d o q) = absurd (cc)
-  low_next t r e (learns c y ys o n q) =
-      let fresh = clashing (clauses ++ s.learned) s.decisions in
+  low_next t r e (adds_clause c y ys o n q) =
+      let fresh = needed_decisions (clauses ++ s.learned) s.decisions in
       let next : Standing = record { learned = s.learned ++ some_true fresh ∷ []; decisions = cut_after s.decisions (reverse fresh) } in
       let same : next ≡ t = cc in
       subst (IsLow v) same (record {
@@ -160,16 +151,16 @@ module _ (clauses : List (List Lit)) (v a : ℕ) where
   spent s both r e (decides x xs c o q) = absurd (cc)
   spent s both r e (refutes c o q) = absurd (cc)
   spent s both r e (gives_up c x xs d o q) =
-      let fresh = clashing (clauses ++ s.learned) s.decisions in
+      let fresh = needed_decisions (clauses ++ s.learned) s.decisions in
       let next : Standing = record { learned = s.learned ++ some_true fresh ∷ []; decisions = cut_after s.decisions (reverse fresh) } in
       let more = suc (length s.learned) in
       let other : eqb (length s.learned) more ≡ false = false_from_ne_true (eqb (length s.learned) more) (λ t. let same = eqb-true (length s.learned) more t in omega arith) in
-      let would : IsTurn clauses v more s (GoesOn next) = learns c x xs d other refl in
+      let would : IsTurn clauses v more s (GoesOn next) = adds_clause c x xs d other refl in
       let few = learned-few clauses v next (good_next clauses v more s both.0 next (GoesOn next) refl would) (low_next clauses v more s both.1 next (GoesOn next) refl would) in
       let longer : length (s.learned ++ some_true fresh ∷ []) ≡ length s.learned + 1 = length_push s.learned (some_true fresh) in
       let all : length s.learned ≡ a = eqb-true (length s.learned) a o in
       omega arith
-  spent s both r e (learns c x xs o n q) = absurd (cc)
+  spent s both r e (adds_clause c x xs o n q) = absurd (cc)
 
   pub never-limit : (n : ℕ) → 2 ^ v ≤ a + 1 → answer_within n clauses v a start ≡ Some Limit → ⊥
   never-limit n enough e =

@@ -7,9 +7,9 @@ use Rattle.std.proofs.lemmas.List.Elements.{Contains-get_or}
 use Rattle.clauses.specs.declared.literal.Lit.{Lit}
 use Rattle.clauses.specs.Closure.{clash}
 use Rattle.clauses.specs.Problem.{IsBelow}
-use Rattle.clauses.specs.Search.{SearchAnswer, Limit, Standing, Turn, GoesOn, Ends, under, some_true, clashing, cut_after, turn, turn_count, answer_within, standing_after, start}
+use Rattle.clauses.specs.Search.{SearchAnswer, Limit, Standing, Turn, GoesOn, Ends, under, some_true, needed_decisions, cut_after, turn, turn_count, answer_within, standing_after, start}
 use Rattle.lists.proofs.Members.{none}
-use Rattle.clauses.proofs.TurnLaws.{IsTurn, answers, decides, refutes, gives_up, learns, turn_is, ended, reached, after_one_more}
+use Rattle.clauses.proofs.TurnLaws.{IsTurn, answers, decides, refutes, gives_up, adds_clause, turn_is, ended, reached, after_one_more}
 use Rattle.clauses.proofs.StandingLaws.{reached-good}
 use Rattle.clauses.proofs.EnoughLaws.{answers-in_count}
 use Rattle.clauses.proofs.BoundLaws.{reached-low}
@@ -35,8 +35,8 @@ module _ (clauses : List (List Lit)) (v a : ℕ) where
       subst (λ (u : Standing). length u.learned ≤ a) same few
   allowed_next s t r few e (refutes c o q) = absurd (cc)
   allowed_next s t r few e (gives_up c x xs d o q) = absurd (cc)
-  allowed_next s t r few e (learns c x xs o n q) =
-      let trimmed = clashing (clauses ++ s.learned) s.decisions in
+  allowed_next s t r few e (adds_clause c x xs o n q) =
+      let trimmed = needed_decisions (clauses ++ s.learned) s.decisions in
       let next : Standing = record { learned = s.learned ++ some_true trimmed ∷ []; decisions = cut_after s.decisions (reverse trimmed) } in
       let same : next ≡ t = cc in
       let longer : length (s.learned ++ some_true trimmed ∷ []) ≡ length s.learned + 1 = length_push s.learned (some_true trimmed) in
@@ -63,7 +63,7 @@ module _ (clauses : List (List Lit)) (v a : ℕ) where
   spends s r comes e (decides x xs c o q) = absurd (cc)
   spends s r comes e (refutes c o q) = absurd (cc)
   spends s r comes e (gives_up c x xs o n q) = (s, comes, not_none x xs s.decisions o, c, eqb-true (length s.learned) a n)
-  spends s r comes e (learns c x xs o n q) = absurd (cc)
+  spends s r comes e (adds_clause c x xs o n q) = absurd (cc)
 
   pub limit-cause : answer_within (turn_count v a) clauses v a start ≡ Some Limit → Spent
   limit-cause e =
@@ -101,11 +101,11 @@ module _ (clauses : List (List Lit)) (v a : ℕ) where
       ap (λ m. answer_within m clauses v a s) (suc_plus n k) ∙ later_answer n k last (λ t f. answer-after n k last t f) (turn clauses v a s) e
 
   limit_turn : (s : Standing) (r : Turn) → (s.decisions ≡ [] → ⊥) → clash (under clauses s) ≡ true → length s.learned ≡ a → IsTurn clauses v a s r → r ≡ Ends Limit
-  limit_turn s r some c all (answers calm o q) = absurd (false≢true (sym calm ∙ c))
-  limit_turn s r some c all (decides x xs calm o q) = absurd (false≢true (sym calm ∙ c))
+  limit_turn s r some c all (answers no_clash o q) = absurd (false≢true (sym no_clash ∙ c))
+  limit_turn s r some c all (decides x xs no_clash o q) = absurd (false≢true (sym no_clash ∙ c))
   limit_turn s r some c all (refutes k o q) = absurd (some o)
   limit_turn s r some c all (gives_up k x xs o n q) = q
-  limit_turn s r some c all (learns k x xs o n q) = absurd (false≢true (sym n ∙ eq-eqb (length s.learned) a all))
+  limit_turn s r some c all (adds_clause k x xs o n q) = absurd (false≢true (sym n ∙ eq-eqb (length s.learned) a all))
 
   same_answer : (x y : SearchAnswer) → Some x ≡ Some y → x ≡ y
   same_answer x y e = cc

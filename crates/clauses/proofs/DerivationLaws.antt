@@ -9,10 +9,10 @@ use Rattle.pref_sets.specs.Trimmed.{trimmed_of, without_item}
 use Rattle.clauses.specs.declared.literal.Lit.{Lit}
 use Rattle.clauses.specs.Clause.{negation, negative_of, unit_of, is_satisfied, are_satisfied}
 use Rattle.clauses.specs.Closure.{clash, follows, AreDerived, IsDerivation}
-use Rattle.clauses.specs.Search.{Unsat, Standing, Turn, GoesOn, Ends, all_false, some_true, clashing, cut_after, turn, answer_within, standing_after, start}
+use Rattle.clauses.specs.Search.{Unsat, Standing, Turn, GoesOn, Ends, all_false, some_true, needed_decisions, cut_after, turn, answer_within, standing_after, start}
 use Rattle.lists.proofs.Members.{all_at, all_from, first_or_later, none}
 use Rattle.clauses.proofs.ClosureLaws.{follows-satisfied}
-use Rattle.clauses.proofs.TurnLaws.{IsTurn, answers, decides, refutes, gives_up, learns, turn_is, ended, reached, after_one_more}
+use Rattle.clauses.proofs.TurnLaws.{IsTurn, answers, decides, refutes, gives_up, adds_clause, turn_is, ended, reached, after_one_more}
 
 step_holds : (test : List ℕ → Bool) (b : Bool) (next set : List ℕ) → test next ≡ b → test set ≡ true → test (cond b next set) ≡ true
 step_holds test true next set e h = e
@@ -43,8 +43,8 @@ module _ (clauses : List (List Lit)) (v a : ℕ) where
   kept s t r d e (decides x xs c o q) = let same : (record s { decisions = s.decisions ++ x ∷ [] }) ≡ t = cc in subst (λ u. AreDerived clauses u.learned) same d
   kept s t r d e (refutes c o q) = absurd (cc)
   kept s t r d e (gives_up c x xs o n q) = absurd (cc)
-  kept s t r d e (learns c x xs o n q) =
-      let trimmed = clashing (clauses ++ s.learned) s.decisions in
+  kept s t r d e (adds_clause c x xs o n q) =
+      let trimmed = needed_decisions (clauses ++ s.learned) s.decisions in
       let next : Standing = record { learned = s.learned ++ some_true trimmed ∷ []; decisions = cut_after s.decisions (reverse trimmed) } in
       let same : next ≡ t = cc in
       subst (λ u. AreDerived clauses u.learned) same
@@ -64,7 +64,7 @@ module _ (clauses : List (List Lit)) (v a : ℕ) where
       let same : s.learned ++ [] ∷ [] ≡ lines = cc in
       subst (IsDerivation clauses) same (derived-push clauses s.learned [] d (subst (λ vars. clash ((clauses ++ s.learned) ++ all_false vars) ≡ true) o c), (s.learned, refl))
   refuted s lines r d e (gives_up c x xs o n q) = absurd (cc)
-  refuted s lines r d e (learns c x xs o n q) = absurd (cc)
+  refuted s lines r d e (adds_clause c x xs o n q) = absurd (cc)
 
   pub unsat-derivation : (n : ℕ) (lines : List (List Lit)) → answer_within n clauses v a start ≡ Some (Unsat lines) → IsDerivation clauses lines
   unsat-derivation n lines e =
@@ -81,7 +81,7 @@ module _ (clauses : List (List Lit)) (v a : ℕ) where
   lines_at s lines r e (decides x xs c o q) = absurd (cc)
   lines_at s lines r e (refutes c o q) = let same : lines ≡ s.learned ++ [] ∷ [] = cc in (o, same)
   lines_at s lines r e (gives_up c x xs o n q) = absurd (cc)
-  lines_at s lines r e (learns c x xs o n q) = absurd (cc)
+  lines_at s lines r e (adds_clause c x xs o n q) = absurd (cc)
 
   pub unsat-lines : (n : ℕ) (lines : List (List Lit)) → answer_within n clauses v a start ≡ Some (Unsat lines)
       → (s : Standing) × Comes s × (s.decisions ≡ []) × (lines ≡ s.learned ++ [] ∷ [])

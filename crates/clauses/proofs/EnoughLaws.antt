@@ -9,12 +9,12 @@ use Rattle.std.proofs.lemmas.List.Elements.{Contains-append_left, Contains-appen
 use Rattle.clauses.specs.declared.literal.Lit.{Lit}
 use Rattle.clauses.specs.Clause.{has, is_same, negation, positive_of, negative_of, unit_of}
 use Rattle.clauses.specs.Closure.{closure, is_forcing}
-use Rattle.clauses.specs.Search.{SearchAnswer, Standing, Turn, GoesOn, Ends, under, all_false, some_true, clashing, cut_after, open_variables, turn, answer_within, turn_count, start}
+use Rattle.clauses.specs.Search.{SearchAnswer, Standing, Turn, GoesOn, Ends, under, all_false, some_true, needed_decisions, cut_after, open_variables, turn, answer_within, turn_count, start}
 use Rattle.lists.proofs.Members.{first, any_from, any_at, to_map, from_filter}
 use Rattle.clauses.proofs.Literals.{is_same-refl}
 use Rattle.clauses.proofs.Counting.{fails, fails-most, fails-less}
 use Rattle.clauses.proofs.LeastLaws.{closure-has}
-use Rattle.clauses.proofs.TurnLaws.{IsTurn, answers, decides, refutes, gives_up, learns, turn_is}
+use Rattle.clauses.proofs.TurnLaws.{IsTurn, answers, decides, refutes, gives_up, adds_clause, turn_is}
 
 abbrev pub among : List ℕ → ℕ → Bool
 among vars x = list_any (λ y. eqb y x) vars
@@ -84,8 +84,8 @@ module _ (clauses : List (List Lit)) (v a : ℕ) where
       subst (Less s) same (most, omega arith)
   less s t r most e (refutes c o q) = absurd (cc)
   less s t r most e (gives_up c x xs d o q) = absurd (cc)
-  less s t r most e (learns c x xs o n q) =
-      let trimmed = clashing (clauses ++ s.learned) s.decisions in
+  less s t r most e (adds_clause c x xs o n q) =
+      let trimmed = needed_decisions (clauses ++ s.learned) s.decisions in
       let next : Standing = record { learned = s.learned ++ some_true trimmed ∷ []; decisions = cut_after s.decisions (reverse trimmed) } in
       let same : next ≡ t = cc in
       let longer : length (s.learned ++ some_true trimmed ∷ []) ≡ length s.learned + 1 = length_push s.learned (some_true trimmed) in

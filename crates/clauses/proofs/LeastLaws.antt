@@ -4,7 +4,7 @@ use Rattle.std.specs.Prelude.{◌↔◌, All, Any, Contains, filter, flat_map}
 use Rattle.std.proofs.lemmas.Bool.{false≢true, cases_Bool, or_cases, or_left, or_right, not_from_false}
 use Rattle.std.proofs.lemmas.List.Elements.{Contains-append_left, Contains-append_right, Contains-append_cases, Contains-push, Contains-get_or, All-contains}
 use Rattle.clauses.specs.declared.literal.Lit.{Lit}
-use Rattle.clauses.specs.Clause.{is_same, has, negation}
+use Rattle.clauses.specs.Clause.{is_same, has, negation, unit_of}
 use Rattle.clauses.specs.Closure.{is_forcing, forced_by, with_literal, newly_forced, rounds, closure, literal_count, AreAmong, IsClosed, is_refuted, clash}
 use Rattle.lists.proofs.Members.{none, first, first_or_later, any_at, any_from, all_at, all_from, to_filter, to_flat_map}
 use Rattle.clauses.proofs.Literals.{is_same-eq, is_same-refl, has-from, from_has}
@@ -117,6 +117,12 @@ module _ (clauses : List (List Lit)) where
       (or_cases (is_same l o) (has set (negation o)) (all_at (λ k. is_same l k || has set (negation k)) of.0 o of.3 inside))))
       (Contains-append_cases set (newly_forced clauses set) l m))
       (literal_count clauses) [] (λ l m. absurd (none l m))
+
+-- the literal of a unit clause is in the closure
+pub unit-closed : (clauses : List (List Lit)) (l : Lit) → Contains clauses (unit_of l) → Contains (closure clauses) l
+unit-closed clauses l m =
+    closure-closed clauses (unit_of l) l m (first l []) (λ other inside apart.
+    ⊎_elim (λ (e : l ≡ other). absurd (apart (sym e))) (λ (no : Contains [] other). absurd (none other no)) (first_or_later l [] other inside))
 
 -- ---- the clash, in the words of sets
 

@@ -1,25 +1,16 @@
 -- Where a search ends with values, they satisfy the clauses.
-use Rattle.std.proofs.Common.{◌≡◌, ◌∙◌, ◌⊎◌, refl, sym, ap, subst, inl, inr, ⊎_elim, ℕ, zero, suc, ◌+◌, ◌<◌, Bool, true, false, not, ◌&&◌, List, [], ◌∷◌, ◌++◌, map, length, get_or, arith}
-use Rattle.std.specs.Prelude.{◌-◌, All, Contains, Option, Some, None, filter_map, slice_get}
-use Rattle.std.specs.List.{range_with_len, cons_option}
+use Rattle.std.proofs.Common.{◌≡◌, ◌∙◌, refl, ap, subst, ⊎_elim, ℕ, zero, suc, ◌+◌, ◌<◌, Bool, true, false, not, ◌&&◌, List, [], ◌++◌, map, length, get_or, arith}
+use Rattle.std.specs.Prelude.{Contains, Some}
+use Rattle.std.specs.List.{range_with_len}
 use Rattle.std.proofs.lemmas.Bool.{cases_Bool, and_from, not_from_false}
-use Rattle.std.proofs.lemmas.List.FromFn.{get_or-range_with_len, length-range_with_len}
-use Rattle.std.proofs.lemmas.List.Elements.{All-contains, Contains-append_left, Contains-append_cases}
+use Rattle.std.proofs.lemmas.List.Elements.{Contains-append_left}
 use Rattle.clauses.specs.declared.literal.Lit.{Lit}
-use Rattle.clauses.specs.Clause.{has, unit_of, negation, positive_of, negative_of, is_true_in, is_satisfied, are_satisfied}
+use Rattle.clauses.specs.Clause.{has, negation, positive_of, negative_of, is_true_in, is_satisfied, are_satisfied}
 use Rattle.clauses.specs.Closure.{closure, clash, is_refuted}
-use Rattle.req_keys.specs.Key.{PositionSet}
-use Rattle.clauses.specs.Problem.{ClauseProblem, IsProblem, IsBelow, roots_at, clauses_with}
 use Rattle.clauses.specs.Search.{Sat, Standing, Turn, Ends, under, all_false as false_units, open_variables, values_of, turn, answer_within, start}
-use Rattle.clauses.proofs.TurnLaws.{IsTurn, answers, decides, refutes, gives_up, learns, turn_is, ended}
-use Rattle.lists.proofs.Members.{later, none, first_or_later, any_from, any_none, all_from, all_false, to_filter, from_map}
-
-pub in_range : (v x : ℕ) → x < v → Contains (range_with_len 0 v) x
-in_range v x l =
-    let size : length (range_with_len 0 v) ≡ v = length-range_with_len 0 v in
-    let within : x < length (range_with_len 0 v) = omega arith in
-    let value : get_or (range_with_len 0 v) x x ≡ 0 + x = get_or-range_with_len 0 v x x l in
-    (x, within, value ∙ omega arith)
+use Rattle.clauses.proofs.TurnLaws.{IsTurn, answers, decides, refutes, gives_up, adds_clause, turn_is, ended}
+use Rattle.lists.proofs.Members.{none, any_from, any_none, all_from, all_false, to_filter}
+use Rattle.lists.proofs.RangeMembers.{range-has}
 
 value_at : (f : ℕ → Bool) (a n k : ℕ) (d : Bool) → k < n → get_or (map f (range_with_len a n)) k d ≡ f (a + k)
 value_at f a zero k d l = absurd (omega arith)
@@ -40,7 +31,7 @@ module _ (v : ℕ) (set : List Lit) (closed : open_variables v set ≡ []) where
       (λ (t : has set (positive_of x) ≡ true). t)
       (λ (f : has set (positive_of x) ≡ false).
       let test = λ (y : ℕ). not (has set (positive_of y)) && not (has set (negative_of y)) in
-      absurd (none x (subst (λ xs. Contains xs x) closed (to_filter test (range_with_len 0 v) x (in_range v x l) (and_from (not (has set (positive_of x))) (not (has set (negative_of x))) (not_from_false (has set (positive_of x)) f) (not_from_false (has set (negative_of x)) n))))))
+      absurd (none x (subst (λ xs. Contains xs x) closed (to_filter test (range_with_len 0 v) x (range-has v x l) (and_from (not (has set (positive_of x))) (not (has set (negative_of x))) (not_from_false (has set (positive_of x)) f) (not_from_false (has set (negative_of x)) n))))))
       (cases_Bool (has set (positive_of x)))
 
   true_at : (x : ℕ) (sign : Bool) → x < v → has set (record { var = x; positive = not sign }) ≡ false → is_true_in (values_of v set) (record { var = x; positive = sign }) ≡ true
@@ -54,9 +45,9 @@ module _ (v : ℕ) (set : List Lit) (closed : open_variables v set ≡ []) where
 pub rest-satisfies : (clauses whole : List (List Lit)) (v : ℕ) → ((clause : List Lit) → Contains clauses clause → Contains whole clause)
     → ((clause : List Lit) → Contains clauses clause → (l : Lit) → Contains clause l → l.var < v)
     → clash whole ≡ false → open_variables v (closure whole) ≡ [] → are_satisfied (values_of v (closure whole)) clauses ≡ true
-rest-satisfies clauses whole v within below calm closed =
+rest-satisfies clauses whole v within below no_clash closed =
     all_from (is_satisfied (values_of v (closure whole))) clauses (λ clause m.
-    let stands = any_none (is_refuted (closure whole)) whole clause calm (within clause m) in
+    let stands = any_none (is_refuted (closure whole)) whole clause no_clash (within clause m) in
     let l = all_false (λ l. has (closure whole) (negation l)) clause stands in
     any_from (is_true_in (values_of v (closure whole))) clause l.0 l.1 (true_where v (closure whole) closed l.0 (below clause m l.0 l.1) l.2))
 
@@ -74,40 +65,9 @@ module _ (clauses : List (List Lit)) (v a : ℕ) (below : (clause : List Lit) �
   answered s values r e (decides x xs c o q) = absurd (cc)
   answered s values r e (refutes c o q) = absurd (cc)
   answered s values r e (gives_up c x xs d o q) = absurd (cc)
-  answered s values r e (learns c x xs o n q) = absurd (cc)
+  answered s values r e (adds_clause c x xs o n q) = absurd (cc)
 
   pub sat-satisfies : (n : ℕ) (values : List Bool) → answer_within n clauses v a start ≡ Some (Sat values) → Holds values
   sat-satisfies n values e =
       let at = ended clauses v a (λ s. Unit {0}) (λ s t p f. tt) (Sat values) n start tt e in
       answered at.0 values (turn clauses v a at.0) at.2 (turn_is clauses v a at.0)
-
--- ---- the clauses of a check of a key are about the problem's variables
-
-from_option : {X : Type 0} (o : Option X) (us : List X) (y : X) → Contains (cons_option o us) y → (o ≡ Some y) ⊎ Contains us y
-from_option None us y m = inr m
-from_option (Some x) us y m = ⊎_elim (λ (e : x ≡ y). inl (ap Some e)) (λ (r : Contains us y). inr r) (first_or_later x us y m)
-
-from_filter_map : {X Y : Type 0} (h : X → Option Y) (xs : List X) (y : Y) → Contains (filter_map h xs) y → (x : X) × (h x ≡ Some y)
-from_filter_map h [] y m = absurd (none y m)
-from_filter_map h (x ∷ xs) y m = ⊎_elim (λ (e : h x ≡ Some y). (x, e)) (λ (r : Contains (filter_map h xs) y). from_filter_map h xs y r) (from_option (h x) (filter_map h xs) y m)
-
-got : {X : Type 0} (xs : List X) (k : ℕ) (x : X) → slice_get xs k ≡ Some x → Contains xs x
-got [] k x e = absurd (cc)
-got (y ∷ ys) zero x e = let same : y ≡ x = cc in (0, omega arith, same)
-got (y ∷ ys) (suc k) x e = later y ys x (got ys k x e)
-
-pub roots_at-roots : (problem : ClauseProblem) (key : PositionSet) (l : Lit) → Contains (roots_at problem key) l → Contains problem.roots l
-roots_at-roots problem key l m = let at = from_filter_map (λ position. slice_get problem.roots (position - 1)) key.members l m in got problem.roots (at.0 - 1) l at.1
-
-pub clauses_with-below : (problem : ClauseProblem) (key : PositionSet) → IsProblem problem → (clause : List Lit) → Contains (clauses_with problem key) clause → (l : Lit) → Contains clause l → l.var < problem.variables
-clauses_with-below problem key is clause m l n =
-    ⊎_elim
-    (λ (old : Contains problem.clauses clause). All-contains (IsBelow problem.variables) clause l (All-contains (All (IsBelow problem.variables)) problem.clauses clause is.clauses_below old) n)
-    (λ (root : Contains (map unit_of (roots_at problem key)) clause).
-    let of = from_map unit_of (roots_at problem key) clause root in
-    let there : Contains (unit_of of.0) l = subst (λ c. Contains c l) (sym of.2) n in
-    ⊎_elim
-    (λ (e : of.0 ≡ l). subst (IsBelow problem.variables) e (All-contains (IsBelow problem.variables) problem.roots of.0 is.roots_below (roots_at-roots problem key of.0 of.1)))
-    (λ (no : Contains [] l). absurd (none l no))
-    (first_or_later of.0 [] l there))
-    (Contains-append_cases problem.clauses (map unit_of (roots_at problem key)) clause m)

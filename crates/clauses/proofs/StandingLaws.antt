@@ -10,17 +10,18 @@ use Rattle.pref_sets.specs.Preferred.{IsDistinct}
 use Rattle.clauses.specs.declared.literal.Lit.{Lit}
 use Rattle.clauses.specs.Clause.{has, is_same, negation, positive_of, negative_of}
 use Rattle.clauses.specs.Closure.{closure, clash, is_forcing}
-use Rattle.clauses.specs.Search.{Standing, Turn, GoesOn, under, all_false, some_true, clashing, cut_after, up_to, open_variables, turn, start, standing_after, NameTheSame, NameOthers}
+use Rattle.clauses.specs.Search.{Standing, Turn, GoesOn, under, all_false, some_true, needed_decisions, cut_after, up_to, open_variables, turn, start, standing_after, NameTheSame, NameOthers}
 use Rattle.lists.proofs.Distinct.{distinct-push}
 use Rattle.lists.proofs.Members.{none, first, later, first_or_later, all_at, all_from, all_false as not_all, from_filter, from_map, to_map}
+use Rattle.clauses.proofs.Cuts.{under_cond, cut-within, cut-distinct}
 use Rattle.clauses.proofs.Literals.{is_same-refl}
 use Rattle.clauses.proofs.LeastLaws.{closure-has, closure-closed, closure-least}
-use Rattle.clauses.proofs.TurnLaws.{IsTurn, answers, decides, refutes, gives_up, learns, turn_is, reached}
+use Rattle.clauses.proofs.TurnLaws.{IsTurn, answers, decides, refutes, gives_up, adds_clause, turn_is, reached}
 use Rattle.clauses.proofs.DerivationLaws.{trimmed-holds}
 use Rattle.clauses.proofs.EnoughLaws.{among, among-from, from_among, decided-false, open-parts, open-new}
 use Rattle.clauses.proofs.TrimmedLaws.{trimmed-part, trimmed-within, not_member, refuted-from_clash, clash-from_refuted}
 
--- ---- distinct lists, and cutting them
+-- ---- distinct lists
 
 distinct_cond : (b : Bool) (x : ℕ) (us : List ℕ) → (Contains us x → ⊥) → IsDistinct us → IsDistinct (cond b (x ∷ us) us)
 distinct_cond true x us f d = (f, d)
@@ -33,39 +34,6 @@ distinct-filter p (x ∷ xs) d = distinct_cond (p x) x (filter p xs) (λ m. d.0 
 distinct-end : (xs ys : List ℕ) → IsDistinct (xs ++ ys) → IsDistinct ys
 distinct-end [] ys d = d
 distinct-end (x ∷ xs) ys d = distinct-end xs ys d.1
-
-under_cond : (b : Bool) (us : List ℕ) (x : ℕ) → Contains (cond b [] us) x → Contains us x
-under_cond true us x m = absurd (none x m)
-under_cond false us x m = m
-
-up_to-within : (last : ℕ) (xs : List ℕ) (x : ℕ) → Contains (up_to last xs) x → Contains xs x
-up_to-within last [] x m = m
-up_to-within last (y ∷ ys) x m =
-    ⊎_elim
-    (λ (e : y ≡ x). subst (Contains (y ∷ ys)) e (first y ys))
-    (λ (r : Contains (cond (eqb y last) [] (up_to last ys)) x). later y ys x (up_to-within last ys x (under_cond (eqb y last) (up_to last ys) x r)))
-    (first_or_later y (cond (eqb y last) [] (up_to last ys)) x m)
-
-distinct_none : (b : Bool) (us : List ℕ) → IsDistinct us → IsDistinct (cond b [] us)
-distinct_none true us d = tt
-distinct_none false us d = d
-
-distinct-up_to : (last : ℕ) (xs : List ℕ) → IsDistinct xs → IsDistinct (up_to last xs)
-distinct-up_to last [] d = tt
-distinct-up_to last (y ∷ ys) d = (
-  (λ m. d.0 (up_to-within last ys y (under_cond (eqb y last) (up_to last ys) y m))),
-  distinct_none (eqb y last) (up_to last ys) (distinct-up_to last ys d.1),
-)
-
-pub cut-within : (d r : List ℕ) (x : ℕ) → Contains (cut_after d r) x → Contains d x
-cut-within d [] x m = absurd (none x m)
-cut-within d (l ∷ []) x m = absurd (none x m)
-cut-within d (l ∷ b ∷ others) x m = up_to-within b d x m
-
-distinct-cut : (d r : List ℕ) → IsDistinct d → IsDistinct (cut_after d r)
-distinct-cut d [] h = tt
-distinct-cut d (l ∷ []) h = tt
-distinct-cut d (l ∷ b ∷ others) h = distinct-up_to b d h
 
 -- ---- of a part of a distinct list, its last member comes after the one before it
 
@@ -107,17 +75,17 @@ module _ (p : ℕ → Bool) (before last : ℕ) where
 
 module _ (known : List (List Lit)) (decisions : List ℕ) (distinct : IsDistinct decisions) (clashes : clash (known ++ all_false decisions) ≡ true) where
   abbrev part : List ℕ
-  part = clashing known decisions
+  part = needed_decisions known decisions
 
   not_false : (z : ℕ) → Contains part z → Contains (closure known) (negative_of z) → ⊥
   not_false z m n = not_member known decisions distinct clashes z n m
 
-  module _ (calm : clash known ≡ false) where
+  module _ (no_clash : clash known ≡ false) where
     has_member : part ≡ [] → ⊥
     has_member e =
         let holds : clash (known ++ all_false part) ≡ true = trimmed-holds (λ set. clash (known ++ all_false set)) decisions clashes in
         let alone : clash (known ++ []) ≡ true = subst (λ set. clash (known ++ all_false set) ≡ true) e holds in
-        false≢true (sym calm ∙ subst (λ c. clash c ≡ true) (append-nil known) alone)
+        false≢true (sym no_clash ∙ subst (λ c. clash c ≡ true) (append-nil known) alone)
 
     module _ (y z : ℕ) (in_y : Contains part y) (in_z : Contains part z) (apart : y ≡ z → ⊥) where
       abbrev more : List (List Lit)
@@ -139,12 +107,12 @@ module _ (known : List (List Lit)) (decisions : List ℕ) (distinct : IsDistinct
           (others (positive_of other.0) (subst (λ c. Contains c (positive_of other.0)) e (to_map positive_of part other.0 other.1)) (λ (h : positive_of other.0 ≡ l). other.2 (ap (λ k. k.var) (h ∙ sym of.2))))))
           (Contains-push_cases known (some_true part) clause m))
 
-      pub calm-more : clash more ≡ false
-      calm-more =
+      pub no_clash-more : clash more ≡ false
+      no_clash-more =
           false_from_ne_true (clash more) (λ e.
           let g = refuted-from_clash more e in
           ⊎_elim
-          (λ (old : Contains known g.0). false≢true (sym calm ∙ clash-from_refuted known g.0 old (λ l n. no_more (negation l) (g.2 l n))))
+          (λ (old : Contains known g.0). false≢true (sym no_clash ∙ clash-from_refuted known g.0 old (λ l n. no_more (negation l) (g.2 l n))))
           (λ (same : some_true part ≡ g.0). not_false y in_y (no_more (negative_of y) (g.2 (positive_of y) (subst (λ c. Contains c (positive_of y)) same (to_map positive_of part y in_y)))))
           (Contains-push_cases known (some_true part) g.0 g.1))
 
@@ -159,7 +127,7 @@ Within clause vars = (l : Lit) → Contains clause l → Contains vars l.var
 
 pub record IsGood (clauses : List (List Lit)) (s : Standing) : Type 0 where
   pub distinct : IsDistinct s.decisions
-  pub calm : (s.decisions ≡ []) ⊎ (clash (clauses ++ s.learned) ≡ false)
+  pub no_clash : (s.decisions ≡ []) ⊎ (clash (clauses ++ s.learned) ≡ false)
   pub positive : (e : List Lit) → Contains s.learned e → (l : Lit) → Contains e l → l.positive ≡ true
   pub apart : (e : List Lit) → Contains s.learned e → Within e s.decisions → ⊥
   pub others : NameOthers [] s.learned
@@ -196,25 +164,25 @@ module _ (clauses : List (List Lit)) (v a : ℕ) (s : Standing) (good : IsGood c
       ∙ closure-has (under clauses s) e (positive_of x) (Contains-append_left (clauses ++ s.learned) (all_false s.decisions) e (Contains-append_right clauses s.learned e m)) there forces))
       (cases_Bool (list_all (λ l. among s.decisions l.var) e))
 
-  calm_decided : clash (under clauses s) ≡ false → clash (clauses ++ s.learned) ≡ false
-  calm_decided c =
+  no_clash_decided : clash (under clauses s) ≡ false → clash (clauses ++ s.learned) ≡ false
+  no_clash_decided c =
       ⊎_elim
       (λ (e : s.decisions ≡ []). subst (λ k. clash k ≡ false) (append-nil (clauses ++ s.learned)) (subst (λ d. clash ((clauses ++ s.learned) ++ all_false d) ≡ false) e c))
       (λ (h : clash (clauses ++ s.learned) ≡ false). h)
-      good.calm
+      good.no_clash
 
   module _ (c : clash (under clauses s) ≡ true) (y : ℕ) (ys : List ℕ) (o : s.decisions ≡ y ∷ ys) where
     abbrev known : List (List Lit)
     known = clauses ++ s.learned
 
     abbrev learnt : List ℕ
-    learnt = clashing known s.decisions
+    learnt = needed_decisions known s.decisions
 
-    known_calm : clash known ≡ false
-    known_calm = ⊎_elim (λ (e : s.decisions ≡ []). absurd (cc)) (λ (h : clash known ≡ false). h) good.calm
+    known_no_clash : clash known ≡ false
+    known_no_clash = ⊎_elim (λ (e : s.decisions ≡ []). absurd (cc)) (λ (h : clash known ≡ false). h) good.no_clash
 
     pub learnt_some : learnt ≡ [] → ⊥
-    learnt_some = has_member known s.decisions good.distinct c known_calm
+    learnt_some = has_member known s.decisions good.distinct c known_no_clash
 
     in_decisions : (x : ℕ) → Contains learnt x → Contains s.decisions x
     in_decisions = trimmed-within (λ set. clash (known ++ all_false set)) s.decisions
@@ -225,10 +193,10 @@ module _ (clauses : List (List Lit)) (v a : ℕ) (s : Standing) (good : IsGood c
     ended_by : (last before : ℕ) (rest : List ℕ) → reverse learnt ≡ last ∷ before ∷ rest → learnt ≡ reverse rest ++ before ∷ last ∷ []
     ended_by last before rest e = turned (last ∷ before ∷ rest) e ∙ reverse-append (last ∷ before ∷ []) rest
 
-    calm_learnt : (r : List ℕ) → reverse learnt ≡ r → (cut_after s.decisions r ≡ []) ⊎ (clash (clauses ++ (s.learned ++ some_true learnt ∷ [])) ≡ false)
-    calm_learnt [] e = inl refl
-    calm_learnt (last ∷ []) e = inl refl
-    calm_learnt (last ∷ before ∷ rest) e =
+    no_clash_learnt : (r : List ℕ) → reverse learnt ≡ r → (cut_after s.decisions r ≡ []) ⊎ (clash (clauses ++ (s.learned ++ some_true learnt ∷ [])) ≡ false)
+    no_clash_learnt [] e = inl refl
+    no_clash_learnt (last ∷ []) e = inl refl
+    no_clash_learnt (last ∷ before ∷ rest) e =
         let whole = ended_by last before rest e in
         let in_last : Contains learnt last = subst (λ t. Contains t last) (sym whole) (ends (reverse rest) before last) in
         let in_before : Contains learnt before = subst (λ t. Contains t before) (sym whole) (Contains-append_right (reverse rest) (before ∷ last ∷ []) before (first before (last ∷ []))) in
@@ -236,7 +204,7 @@ module _ (clauses : List (List Lit)) (v a : ℕ) (s : Standing) (good : IsGood c
         let distinct : IsDistinct learnt = subst IsDistinct (sym part.1) (distinct-filter part.0 s.decisions good.distinct) in
         let two : IsDistinct (before ∷ last ∷ []) = distinct-end (reverse rest) (before ∷ last ∷ []) (subst IsDistinct whole distinct) in
         let other : before ≡ last → ⊥ = λ h. two.0 (subst (Contains (last ∷ [])) (sym h) (first last [])) in
-        inr (subst (λ k. clash k ≡ false) (append_assoc clauses s.learned (some_true learnt ∷ [])) (calm-more known s.decisions good.distinct c known_calm before last in_before in_last other))
+        inr (subst (λ k. clash k ≡ false) (append_assoc clauses s.learned (some_true learnt ∷ [])) (no_clash-more known s.decisions good.distinct c known_no_clash before last in_before in_last other))
 
     apart_new : (r : List ℕ) → reverse learnt ≡ r → Within (some_true learnt) (cut_after s.decisions r) → ⊥
     apart_new [] e within = learnt_some (turned [] e)
@@ -262,20 +230,20 @@ module _ (clauses : List (List Lit)) (v a : ℕ) (s : Standing) (good : IsGood c
       let same : (record s { decisions = s.decisions ++ x ∷ [] }) ≡ t = cc in
       subst (IsGood clauses) same (record {
         distinct = distinct-push s.decisions x good.distinct (open-new clauses s v x xs o);
-        calm = inr (calm_decided c);
+        no_clash = inr (no_clash_decided c);
         positive = good.positive;
         apart = apart_decided x xs o;
         others = good.others;
       })
   good_next t r e (refutes c o q) = absurd (cc)
   good_next t r e (gives_up c x xs d o q) = absurd (cc)
-  good_next t r e (learns c y ys o n q) =
-      let new = clashing (clauses ++ s.learned) s.decisions in
+  good_next t r e (adds_clause c y ys o n q) =
+      let new = needed_decisions (clauses ++ s.learned) s.decisions in
       let next : Standing = record { learned = s.learned ++ some_true new ∷ []; decisions = cut_after s.decisions (reverse new) } in
       let same : next ≡ t = cc in
       subst (IsGood clauses) same (record {
-        distinct = distinct-cut s.decisions (reverse new) good.distinct;
-        calm = calm_learnt c y ys o (reverse new) refl;
+        distinct = cut-distinct s.decisions (reverse new) good.distinct;
+        no_clash = no_clash_learnt c y ys o (reverse new) refl;
         positive = λ e2 m l k. ⊎_elim
             (λ (old : Contains s.learned e2). good.positive e2 old l k)
             (λ (h : some_true new ≡ e2). let w = from_map positive_of new l (subst (λ d. Contains d l) (sym h) k) in ap (λ j. j.positive) (sym w.2))
@@ -288,7 +256,7 @@ module _ (clauses : List (List Lit)) (v a : ℕ) (s : Standing) (good : IsGood c
       })
 
 pub start-good : (clauses : List (List Lit)) → IsGood clauses start
-start-good clauses = record { distinct = tt; calm = inl refl; positive = λ e m. absurd (none e m); apart = λ e m within. none e m; others = tt }
+start-good clauses = record { distinct = tt; no_clash = inl refl; positive = λ e m. absurd (none e m); apart = λ e m within. none e m; others = tt }
 
 pub reached-good : (clauses : List (List Lit)) (v a n : ℕ) (last : Standing) → standing_after n clauses v a start ≡ Some last → IsGood clauses last
 reached-good clauses v a n last e = reached clauses v a (IsGood clauses) (λ s t good f. good_next clauses v a s good t (turn clauses v a s) f (turn_is clauses v a s)) last n start (start-good clauses) e
@@ -298,8 +266,8 @@ some_decision [] f = absurd (f refl)
 some_decision (y ∷ ys) f = (y, ys, refl)
 
 module _ (clauses : List (List Lit)) (v a n : ℕ) (last : Standing) (e : standing_after n clauses v a start ≡ Some last) (decided : last.decisions ≡ [] → ⊥) where
-  pub reached-calm : clash (clauses ++ last.learned) ≡ false
-  reached-calm = ⊎_elim (λ (d : last.decisions ≡ []). absurd (decided d)) (λ (h : clash (clauses ++ last.learned) ≡ false). h) (reached-good clauses v a n last e).calm
+  pub reached-no_clash : clash (clauses ++ last.learned) ≡ false
+  reached-no_clash = ⊎_elim (λ (d : last.decisions ≡ []). absurd (decided d)) (λ (h : clash (clauses ++ last.learned) ≡ false). h) (reached-good clauses v a n last e).no_clash
 
-  pub reached-member : clash (under clauses last) ≡ true → clashing (clauses ++ last.learned) last.decisions ≡ [] → ⊥
+  pub reached-member : clash (under clauses last) ≡ true → needed_decisions (clauses ++ last.learned) last.decisions ≡ [] → ⊥
   reached-member c = let d = some_decision last.decisions decided in learnt_some clauses v a last (reached-good clauses v a n last e) c d.0 d.1 d.2

@@ -2,14 +2,14 @@
 use Rattle.std.proofs.Common.{◌≡◌, ◌∙◌, refl, ap, subst, ℕ, zero, suc, eqb, Bool, true, false, List, [], ◌∷◌, ◌++◌, length, Some, None}
 use Rattle.clauses.specs.declared.literal.Lit.{Lit}
 use Rattle.clauses.specs.Closure.{closure, clash}
-use Rattle.clauses.specs.Search.{SearchAnswer, Sat, Unsat, Limit, Standing, Turn, GoesOn, Ends, under, open_variables, values_of, clashing, turn, turn_at_clash, turn_at_rest, turn_at_learning, answer_within, standing_after}
+use Rattle.clauses.specs.Search.{SearchAnswer, Sat, Unsat, Limit, Standing, Turn, GoesOn, Ends, under, open_variables, values_of, needed_decisions, turn, turn_at_clash, turn_at_rest, turn_at_learning, answer_within, standing_after}
 
 pub data IsTurn (clauses : List (List Lit)) (v a : ℕ) (s : Standing) (t : Turn) : Type 0 where
   answers : clash (under clauses s) ≡ false → open_variables v (closure (under clauses s)) ≡ [] → t ≡ Ends (Sat (values_of v (closure (under clauses s)))) → IsTurn clauses v a s t
   decides : (x : ℕ) (xs : List ℕ) → clash (under clauses s) ≡ false → open_variables v (closure (under clauses s)) ≡ x ∷ xs → t ≡ GoesOn (record s { decisions = s.decisions ++ x ∷ [] }) → IsTurn clauses v a s t
   refutes : clash (under clauses s) ≡ true → s.decisions ≡ [] → t ≡ Ends (Unsat (s.learned ++ [] ∷ [])) → IsTurn clauses v a s t
   gives_up : clash (under clauses s) ≡ true → (x : ℕ) (xs : List ℕ) → s.decisions ≡ x ∷ xs → eqb (length s.learned) a ≡ true → t ≡ Ends Limit → IsTurn clauses v a s t
-  learns : clash (under clauses s) ≡ true → (x : ℕ) (xs : List ℕ) → s.decisions ≡ x ∷ xs → eqb (length s.learned) a ≡ false → t ≡ turn_at_learning s (clashing (clauses ++ s.learned) s.decisions) → IsTurn clauses v a s t
+  adds_clause : clash (under clauses s) ≡ true → (x : ℕ) (xs : List ℕ) → s.decisions ≡ x ∷ xs → eqb (length s.learned) a ≡ false → t ≡ turn_at_learning s (needed_decisions (clauses ++ s.learned) s.decisions) → IsTurn clauses v a s t
 
 module _ (clauses : List (List Lit)) (v a : ℕ) (s : Standing) where
   at_rest : clash (under clauses s) ≡ false → (vars : List ℕ) → open_variables v (closure (under clauses s)) ≡ vars
@@ -18,10 +18,10 @@ module _ (clauses : List (List Lit)) (v a : ℕ) (s : Standing) where
   at_rest e (x ∷ xs) o = decides x xs e o refl
 
   at_clash : clash (under clauses s) ≡ true → (d : List ℕ) → s.decisions ≡ d → (b : Bool) → eqb (length s.learned) a ≡ b
-      → IsTurn clauses v a s (elim d [ [] ↦ Ends (Unsat (s.learned ++ [] ∷ [])) | first ∷ others ↦ elim b [ true ↦ Ends Limit | false ↦ turn_at_learning s (clashing (clauses ++ s.learned) s.decisions) ] ])
+      → IsTurn clauses v a s (elim d [ [] ↦ Ends (Unsat (s.learned ++ [] ∷ [])) | first ∷ others ↦ elim b [ true ↦ Ends Limit | false ↦ turn_at_learning s (needed_decisions (clauses ++ s.learned) s.decisions) ] ])
   at_clash e [] d b l = refutes e d refl
   at_clash e (x ∷ xs) d true l = gives_up e x xs d l refl
-  at_clash e (x ∷ xs) d false l = learns e x xs d l refl
+  at_clash e (x ∷ xs) d false l = adds_clause e x xs d l refl
 
   by_clash : (b : Bool) → clash (under clauses s) ≡ b → IsTurn clauses v a s (elim b [ true ↦ turn_at_clash clauses a s | false ↦ turn_at_rest v (closure (under clauses s)) s ])
   by_clash true e = at_clash e s.decisions refl (eqb (length s.learned) a) refl

@@ -2,6 +2,7 @@
 use Rattle.std.specs.Prelude.{◌≡◌, true, false, [], ◌∷◌, refl}
 use Rattle.clauses.specs.Clause.{positive_of as yes, negative_of as no, are_satisfied}
 use Rattle.clauses.specs.Closure.{closure, clash, follows}
+use Rattle.clauses.specs.Letters.{literal_of, clause_of}
 
 -- 0 is true, so 1 is, so 2 isn't
 pub chain-closure : closure ((yes 0 ∷ []) ∷ (no 0 ∷ yes 1 ∷ []) ∷ (no 1 ∷ no 2 ∷ []) ∷ []) ≡ yes 0 ∷ yes 1 ∷ no 2 ∷ []
@@ -78,3 +79,10 @@ empty-not_satisfied = refl
 
 pub none-satisfied : are_satisfied [] [] ≡ true
 none-satisfied = refl
+
+-- 'b, or not c', and the letter past the last of four variables
+pub letters : clause_of 4 (98 ∷ 67 ∷ []) ≡ yes 1 ∷ no 2 ∷ []
+letters = refl
+
+pub letters-past : literal_of 4 101 ≡ yes 0
+letters-past = refl

@@ -56,8 +56,8 @@ cut_after decisions (last ∷ before ∷ others) = up_to before decisions
 cut_after decisions others = []
 
 -- the decisions that a clash needs
-abbrev pub clashing : List (List Lit) → List ℕ → List ℕ
-clashing clauses decisions = trimmed_of (λ set. clash (clauses ++ all_false set)) decisions
+abbrev pub needed_decisions : List (List Lit) → List ℕ → List ℕ
+needed_decisions clauses decisions = trimmed_of (λ set. clash (clauses ++ all_false set)) decisions
 
 -- no clash: where each variable has a value they are the answer, and else the lowest without one is decided false
 abbrev pub turn_at_rest : ℕ → List Lit → Standing → Turn
@@ -75,7 +75,7 @@ turn_at_clash clauses allowance now = elim now.decisions [
   | [] ↦ Ends (Unsat (now.learned ++ [] ∷ []))
   | first ∷ others ↦ elim (length now.learned == allowance) [
     | true ↦ Ends Limit
-    | false ↦ turn_at_learning now (clashing (clauses ++ now.learned) now.decisions)
+    | false ↦ turn_at_learning now (needed_decisions (clauses ++ now.learned) now.decisions)
   ]
 ]
 

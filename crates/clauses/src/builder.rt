@@ -9,7 +9,9 @@ use std::marker::Model;
 /// The clauses so far, and the lowest variable that isn't taken.
 #[derive(Drop)]
 pub struct ClauseBuilder {
+    /// What `fresh` gives next.
     next: u32,
+    /// In the order in which they were added.
     clauses: Clauses,
 }
 

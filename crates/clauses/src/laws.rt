@@ -5,7 +5,7 @@ ghost use Rattle.clauses.specs.declared.literal.Lit.{Lit};
 ghost use Rattle.clauses.specs.Clause.{is_satisfied, are_satisfied, negation};
 ghost use Rattle.clauses.specs.Closure.{closure, clash, follows, AreAmong, IsClosed, AreDerived, IsDerivation};
 ghost use Rattle.clauses.specs.Problem.{ClauseProblem, IsBelow, IsProblem, clauses_with};
-ghost use Rattle.clauses.specs.Search.{Standing, Sat, Unsat, Limit, NameOthers, clashing, search_of, under, IsReached};
+ghost use Rattle.clauses.specs.Search.{Standing, Sat, Unsat, Limit, NameOthers, needed_decisions, search_of, under, IsReached};
 
 use std::marker::Brand;
 
@@ -43,8 +43,8 @@ pub fn search_ends()
 /// While decisions stand, the clauses and the learned ones don't clash without them, so at a clash the trimmed set of
 /// the decisions has a member.
 pub fn trimmed_decisions_have_a_member()
-    ensures calm { (problem : ClauseProblem) (key : PositionSet) (now : Standing) → IsReached problem key now → (¬ now.decisions ≡ []) → IsFalse (clash (clauses_with problem key ++ now.learned)) }
-    ensures member { (problem : ClauseProblem) (key : PositionSet) (now : Standing) → IsReached problem key now → (¬ now.decisions ≡ []) → IsTrue (clash (under (clauses_with problem key) now)) → ¬ clashing (clauses_with problem key ++ now.learned) now.decisions ≡ [] }
+    ensures no_clash { (problem : ClauseProblem) (key : PositionSet) (now : Standing) → IsReached problem key now → (¬ now.decisions ≡ []) → IsFalse (clash (clauses_with problem key ++ now.learned)) }
+    ensures member { (problem : ClauseProblem) (key : PositionSet) (now : Standing) → IsReached problem key now → (¬ now.decisions ≡ []) → IsTrue (clash (under (clauses_with problem key) now)) → ¬ needed_decisions (clauses_with problem key ++ now.learned) now.decisions ≡ [] }
 {}
 
 /// Each learned clause has a member and is about variables of the problem, and none names the same set of variables as an

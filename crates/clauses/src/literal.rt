@@ -1,6 +1,6 @@
 //! Literals, and lists of them.
 ghost use Rattle.std.specs.Prelude.{◌≡◌, length, All};
-ghost use Rattle.clauses.specs.Clause.{is_true_in, is_satisfied, are_satisfied};
+ghost use Rattle.clauses.specs.Clause.{are_satisfied, is_satisfied, is_true_in, negation};
 ghost use Rattle.clauses.specs.Problem.{IsBelow};
 
 use lists::Row;
@@ -13,6 +13,17 @@ pub struct Lit {
 }
 
 impl Lit {
+    /// The same variable with the other sign.
+    pub fn negated(self) -> Lit
+        ensures { result ≡ negation self }
+    {
+        Lit {
+            var: self.var,
+            positive: !self.positive,
+        }
+    }
+
+    /// Whether the assignment makes the literal true.
     fn is_true_in(self, assignment: &[bool]) -> bool
         requires { IsBelow (length assignment.now) self }
         ensures { result ≡ is_true_in assignment.now self }
@@ -30,6 +41,11 @@ pub type Clauses = Row<Clause>;
 /// A list of literals, as the roots of the requirements.
 pub type Lits = Row<Lit>;
 
+/// Clauses as lines, each of which follows from those before it. A search ends with the learned clauses in order, and
+/// then the empty clause.
+pub type Derivation = Clauses;
+
+/// Whether the assignment makes a literal of the clause true.
 fn is_clause_satisfied(clause: &Clause, assignment: &[bool]) -> bool
     requires { All (IsBelow (length assignment.now)) clause.now }
     ensures { result ≡ is_satisfied assignment.now clause.now }

@@ -13,6 +13,7 @@ pub struct Problem {
     pub variables: u32,
     /// The variables below this number are the features of a model.
     pub features: u32,
+    /// What is asserted.
     pub clauses: Clauses,
     /// A literal for each requirement, in order, at most 4,096. It isn't asserted.
     pub roots: Lits,

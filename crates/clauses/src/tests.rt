@@ -16,6 +16,7 @@ fn threads_share_them() {
     is_shared::<Lit>();
 }
 
+/// The variable with this sign.
 fn lit(var: u32, positive: bool) -> Lit {
     Lit { var, positive }
 }

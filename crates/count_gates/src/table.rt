@@ -1,21 +1,12 @@
 //! Making a counting table: row after row, each from the row before.
 ghost use Rattle.std.specs.Prelude.{◌≡◌, ◌+◌, ◌<◌, ◌≤◌, min, [], ◌∷◌, ◌++◌, map, length, All, OnOk, IfOk, slice_get};
 ghost use Rattle.std.specs.List.{range_with_len};
-ghost use Rattle.clauses.specs.Clause.{negation, positive_of};
+ghost use Rattle.clauses.specs.Clause.{positive_of};
 ghost use Rattle.clauses.specs.Problem.{IsBelow};
 ghost use Rattle.count_gates.specs.Table.{Always, Is, opposite, clause_of, or_never, or_always, at_least, cell_clauses, row_clauses, table_clauses, table_literals, table_size};
 
 use clauses::{ClauseBuilder, Lit, Lits};
 use std::alloc::{AllocError, Global};
-
-fn negated(literal: Lit) -> Lit
-    ensures { result ≡ negation literal }
-{
-    Lit {
-        var: literal.var,
-        positive: !literal.positive,
-    }
-}
 
 /// The cell is true only where the same count was reached before or the other literal is true.
 fn add_only_where(
@@ -28,8 +19,8 @@ fn add_only_where(
     ensures variable { out.new.next_variable ≡ out.old.next_variable }
 {
     match same {
-        Some(same) => out.add(&[negated(cell), same, other]),
-        None => out.add(&[negated(cell), other]),
+        Some(same) => out.add(&[cell.negated(), same, other]),
+        None => out.add(&[cell.negated(), other]),
     }
 }
 
@@ -45,11 +36,11 @@ fn add_where(
     ensures variable { out.new.next_variable ≡ out.old.next_variable }
 {
     if let Some(same) = same {
-        out.add(&[cell, negated(same)])?;
+        out.add(&[cell, same.negated()])?;
     }
     match fewer {
-        Some(fewer) => out.add(&[cell, negated(fewer), negated(child)]),
-        None => out.add(&[cell, negated(child)]),
+        Some(fewer) => out.add(&[cell, fewer.negated(), child.negated()]),
+        None => out.add(&[cell, child.negated()]),
     }
 }
 

@@ -1,15 +1,16 @@
-//! Tables of a few children, worked by hand. A letter is a literal: a to d are the children's variables, those from e on
-//! the table's, and capital letters their negations. A word is a clause.
+//! Tables of a few children, worked by hand. A letter is a literal, a word is a clause: a to d are the children's
+//! variables, and those from e on the table's.
 ghost use Rattle.std.specs.Prelude.{◌≡◌, ◌+◌, ◌≤◌, length, All};
 ghost use Rattle.clauses.specs.Clause.{negative_of, positive_of};
 ghost use Rattle.clauses.specs.Problem.{IsBelow};
 ghost use Rattle.count_gates.specs.Table.{table_size};
 
 use crate::count_table;
-use clauses::{ClauseBuilder, Lit};
+use clauses::{ClauseBuilder, Lit, clause_of, clauses_of};
 use std::alloc::{AllocError, Global};
 use std::process::Abort;
 
+/// The variable.
 fn yes(var: u32) -> Lit
     ensures { result ≡ positive_of var }
 {
@@ -19,6 +20,7 @@ fn yes(var: u32) -> Lit
     }
 }
 
+/// Its negation.
 fn no(var: u32) -> Lit
     ensures { result ≡ negative_of var }
 {
@@ -26,19 +28,6 @@ fn no(var: u32) -> Lit
         var,
         positive: false,
     }
-}
-
-fn is_letter(literal: &Lit, letter: u8) -> bool {
-    literal.var == (u32::from(letter) + 31) % 32 && literal.positive == (letter >= b'a')
-}
-
-fn is_word(literals: &[Lit], word: &str) -> bool {
-    let letters = word.as_bytes();
-    literals.len() == letters.len()
-        && literals
-            .iter()
-            .zip(letters)
-            .all(|(literal, letter)| is_letter(literal, *letter))
 }
 
 /// Whether the table has these clauses, and answers these literals.
@@ -56,14 +45,10 @@ fn is_table(
 {
     let mut out = ClauseBuilder::new(alloc, 4);
     let literals = count_table(alloc, &mut out, children, upto)?;
-    let clauses = out.into_clauses();
-    let clauses = clauses.as_slice();
-    let same = clauses.len() == words.len()
-        && clauses
-            .iter()
-            .zip(words)
-            .all(|(clause, word)| is_word(clause.as_slice(), word));
-    Ok(same && is_word(literals.as_slice(), last))
+    Ok(
+        out.into_clauses() == clauses_of(alloc, 32, words)?
+            && literals == clause_of(alloc, 32, last)?,
+    )
 }
 
 #[test]

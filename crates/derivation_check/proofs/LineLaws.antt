@@ -11,7 +11,7 @@ use Rattle.clauses.specs.Problem.{ClauseProblem, clauses_with, roots_at}
 use Rattle.clauses.proofs.DerivationLaws.{derived-push}
 use Rattle.propagation.specs.Propagation.{Propagation, propagated}
 use Rattle.propagation.specs.Roots.{AreRooted}
-use Rattle.propagation.specs.Values.{IsPart}
+use Rattle.propagation.specs.inside.Values.{IsPart}
 use Rattle.propagation.proofs.ValueLaws.{clash-same, part-among}
 use Rattle.derivation_check.specs.Checking.{first_wrong}
 use Rattle.derivation_check.proofs.CheckLaws.{wrong-at}

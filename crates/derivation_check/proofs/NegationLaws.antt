@@ -1,23 +1,23 @@
 -- Negations of a line's literals that are assumed one by one: what clashes with them, and that there is room.
-use Rattle.std.proofs.Common.{◌≡◌, ◌∙◌, ◌⊎◌, refl, sym, ap, subst, inl, inr, ⊎_elim, ℕ, ◌+◌, ◌<◌, ◌≤◌, Bool, true, false, not, List, [], ◌∷◌, ◌++◌, length, map, take, drop, get_or, All, append-nil, append_assoc, arith}
-use Rattle.std.specs.Prelude.{Contains, Some, None}
-use Rattle.std.proofs.Math.Bool.{beq}
-use Rattle.std.proofs.lemmas.Bool.{false≢true, true≢false, false_from_ne_true}
-use Rattle.std.proofs.lemmas.List.{take_more, take-append-drop, length-map, length-append}
-use Rattle.std.proofs.lemmas.List.Elements.{All-nil, All-cons, All-push, Contains-append_left, Contains-append_right, Contains-append_cases, Contains-push, Contains-push_cases}
-use Rattle.pref_sets.specs.Preferred.{IsDistinct}
+use Rattle.std.proofs.Common.{◌≡◌, ◌∙◌, ◌⊎◌, refl, sym, ap, subst, inl, inr, ⊎_elim, ℕ, ◌+◌, ◌<◌, ◌≤◌, true, false, List, [], ◌∷◌, ◌++◌, length, map, take, drop, get_or, append-nil, append_assoc, arith}
+use Rattle.std.specs.Prelude.{Contains, None}
+use Rattle.std.proofs.lemmas.Bool.{false≢true, false_from_ne_true}
+use Rattle.std.proofs.lemmas.List.{drop_all, map-append, take_more, take-append-drop}
+use Rattle.std.proofs.lemmas.List.Elements.{Contains-append_left, Contains-append_right, Contains-append_cases, Contains-push, Contains-push_cases}
+use Rattle.lists.specs.Distinct.{IsDistinct}
 use Rattle.clauses.specs.declared.literal.Lit.{Lit}
 use Rattle.clauses.specs.Clause.{negation, unit_of}
 use Rattle.clauses.specs.Closure.{closure, clash, follows, IsClosed}
+use Rattle.clauses.specs.Problem.{IsBelow}
 use Rattle.lists.proofs.Members.{none, first, first_or_later, from_map, to_map}
 use Rattle.clauses.proofs.TrimmedLaws.{closure-more, clash-more, clash-from_refuted, refuted-from_clash}
 use Rattle.clauses.proofs.LeastLaws.{closure-closed, closure-least}
 use Rattle.propagation.specs.Propagation.{Propagation, propagated, value_of}
-use Rattle.propagation.specs.Values.{IsPart}
-use Rattle.propagation.proofs.ValueLaws.{one_sign, both-clash, value-true, value-false, value-none}
-use Rattle.lists.proofs.Distinct.{distinct-push}
-use Rattle.solver.proofs.TrialLaws.{unit-closed, distinct-few}
-use Rattle.derivation_check.specs.Negations.{IsBehind, IsNegated}
+use Rattle.propagation.specs.Room.{AreDistinctBehind, HasRoom, IsMadeTrue}
+use Rattle.propagation.specs.inside.Values.{IsPart}
+use Rattle.propagation.proofs.RoomLaws.{new-closed, propagated-push}
+use Rattle.propagation.proofs.ValueLaws.{one_sign}
+use Rattle.derivation_check.specs.inside.Negations.{IsBehind}
 
 -- the negations of a line's literals, each as a clause of its own
 abbrev pub negations : List Lit → List (List Lit)
@@ -29,7 +29,7 @@ abbrev IsUnitIn : List (List Lit) → List Lit → Type 0
 IsUnitIn a clause = (l : Lit) × (unit_of l ≡ clause) × Contains (closure a) l
 
 -- clauses that don't clash, and units of their closure, don't clash
-module _ (a b : List (List Lit)) (calm : clash a ≡ false) (each : (clause : List Lit) → Contains b clause → Contains a clause ⊎ IsUnitIn a clause) where
+module _ (a b : List (List Lit)) (no_clash : clash a ≡ false) (each : (clause : List Lit) → Contains b clause → Contains a clause ⊎ IsUnitIn a clause) where
   closed : IsClosed b (Contains (closure a))
   closed clause l m inside others =
       ⊎_elim
@@ -42,66 +42,16 @@ module _ (a b : List (List Lit)) (calm : clash a ≡ false) (each : (clause : Li
   not_refuted : (clause : List Lit) → Contains b clause → ((l : Lit) → Contains clause l → Contains (closure a) (negation l)) → ⊥
   not_refuted clause m refuted =
       ⊎_elim
-      (λ (old : Contains a clause). false≢true (sym calm ∙ clash-from_refuted a clause old refuted))
-      (λ (unit : IsUnitIn a clause). one_sign a unit.0 calm unit.2 (refuted unit.0 (subst (λ c. Contains c unit.0) unit.1 (first unit.0 []))))
+      (λ (old : Contains a clause). false≢true (sym no_clash ∙ clash-from_refuted a clause old refuted))
+      (λ (unit : IsUnitIn a clause). one_sign a unit.0 no_clash unit.2 (refuted unit.0 (subst (λ c. Contains c unit.0) unit.1 (first unit.0 []))))
       (each clause m)
 
-  pub units-calm : clash b ≡ false
-  units-calm = false_from_ne_true (clash b) (λ e. let r = refuted-from_clash b e in not_refuted r.0 r.1 (λ l n. closure-least b (Contains (closure a)) closed (negation l) (r.2 l n)))
+  pub units-no_clash : clash b ≡ false
+  units-no_clash = false_from_ne_true (clash b) (λ e. let r = refuted-from_clash b e in not_refuted r.0 r.1 (λ l n. closure-least b (Contains (closure a)) closed (negation l) (r.2 l n)))
 
 -- clauses that clash do so with any more
 pub clash-append : (a more : List (List Lit)) → clash a ≡ true → clash (a ++ more) ≡ true
 clash-append a more = clash-more a (a ++ more) (λ clause m. Contains-append_left a more clause m)
-
--- ---- one literal
-
-in_closure : (clauses : List (List Lit)) (var : ℕ) (b : Bool) → clash clauses ≡ false → value_of clauses var ≡ Some b → Contains (closure clauses) (record { var = var; positive = b })
-in_closure clauses var true calm e = (value-true clauses var).0 e
-in_closure clauses var false calm e = (value-false clauses var calm).0 e
-
-map-append : {X Y : Type 0} (f : X → Y) (xs ys : List X) → map f (xs ++ ys) ≡ map f xs ++ map f ys
-map-append f [] ys = refl
-map-append f (x ∷ xs) ys = ap (λ rest. f x ∷ rest) (map-append f xs ys)
-
-other_sign : (value sign : Bool) → not (beq value sign) ≡ true → value ≡ not sign
-other_sign true true e = absurd (false≢true e)
-other_sign true false e = refl
-other_sign false true e = refl
-other_sign false false e = absurd (false≢true e)
-
-one_value : (value sign : Bool) → not (beq value sign) ≡ false → value ≡ sign
-one_value true true e = refl
-one_value true false e = absurd (true≢false e)
-one_value false true e = absurd (true≢false e)
-one_value false false e = refl
-
-module _ (clauses : List (List Lit)) (calm : clash clauses ≡ false) (literal : Lit) (value : Bool) (is : value_of clauses literal.var ≡ Some value) where
-  pub known-negative : not (beq value literal.positive) ≡ true → Contains (closure clauses) (negation literal)
-  known-negative e =
-      subst (λ (b : Bool). Contains (closure clauses) (record { var = literal.var; positive = b })) (other_sign value literal.positive e)
-      (in_closure clauses literal.var value calm is)
-
-  pub known-clash : not (beq value literal.positive) ≡ false → clash (clauses ++ unit_of (negation literal) ∷ []) ≡ true
-  known-clash e =
-      let next = clauses ++ unit_of (negation literal) ∷ [] in
-      both-clash next literal
-      (closure-more clauses next (λ clause m. Contains-append_left clauses (unit_of (negation literal) ∷ []) clause m) literal
-      (subst (λ (b : Bool). Contains (closure clauses) (record { var = literal.var; positive = b })) (one_value value literal.positive e)
-      (in_closure clauses literal.var value calm is)))
-      (unit-closed next (negation literal) (Contains-push clauses (unit_of (negation literal))))
-
--- a literal that is assumed is in the closure
-pub assumed-closed : (at : Propagation) (l : Lit) → Contains at.assumed l → Contains (closure (propagated at)) l
-assumed-closed at l m = unit-closed (propagated at) l (Contains-append_right (at.problem.clauses ++ at.learned) (map unit_of at.assumed) (unit_of l) (to_map unit_of at.assumed l m))
-
-pub new-closed : (before at : Propagation) (l : Lit) → at ≡ record before { assumed = before.assumed ++ l ∷ [] } → Contains (closure (propagated at)) l
-new-closed before at l e = assumed-closed at l (subst (λ (p : Propagation). Contains p.assumed l) (sym e) (Contains-push before.assumed l))
-
--- one assumed literal more is one clause more
-pub propagated-push : (at : Propagation) (l : Lit) → propagated (record at { assumed = at.assumed ++ l ∷ [] }) ≡ propagated at ++ unit_of l ∷ []
-propagated-push at l =
-    ap (λ units. (at.problem.clauses ++ at.learned) ++ units) (map-append unit_of at.assumed (l ∷ []))
-    ∙ sym (append_assoc (at.problem.clauses ++ at.learned) (map unit_of at.assumed) (unit_of l ∷ []))
 
 -- ---- the literals so far
 
@@ -111,9 +61,8 @@ pub record IsFalsified (start at : Propagation) (line : List Lit) : Type 0 where
   pub is : at ≡ record start { assumed = start.assumed ++ assumed }
   pub within : IsPart (propagated at) (propagated start ++ negations line)
   pub negative : (l : Lit) → Contains line l → Contains (closure (propagated at)) (negation l)
-  pub calm : clash (propagated at) ≡ false
-  pub distinct : IsDistinct (map (λ (l : Lit). l.var) assumed)
-  pub below : All (λ v. v < start.problem.variables) (map (λ (l : Lit). l.var) assumed)
+  pub no_clash : clash (propagated at) ≡ false
+  pub distinct : AreDistinctBehind (length start.assumed) at
 
 negations-part : (a b : List Lit) → ((l : Lit) → Contains a l → Contains b l) → IsPart (negations a) (negations b)
 negations-part a b within clause m =
@@ -129,38 +78,22 @@ module _ (start : Propagation) where
       (Contains-append_cases (propagated start) (negations a) clause m)
 
   pub falsified-none : clash (propagated start) ≡ false → IsFalsified start start []
-  falsified-none calm = record {
+  falsified-none no_clash = record {
     assumed = [];
     is = ap (λ assumed. record start { assumed = assumed }) (sym (append-nil start.assumed));
     within = (λ clause m. Contains-append_left (propagated start) [] clause m);
     negative = (λ l m. absurd (none l m));
-    calm = calm;
-    distinct = tt;
-    below = All-nil (λ v. v < start.problem.variables);
+    no_clash = no_clash;
+    distinct = subst (λ ls. IsDistinct (map (λ (l : Lit). l.var) ls)) (sym (drop_all (length start.assumed) start.assumed (omega arith))) tt;
   }
 
   module _ (old : Propagation) (line : List Lit) (before : IsFalsified start old line) (literal : Lit) where
-    -- a variable that has no value isn't that of an assumed literal
-    signs : (v : ℕ) (sign : Bool) → Contains (closure (propagated old)) (record { var = v; positive = sign }) → value_of (propagated old) v ≡ None → ⊥
-    signs v true m e = ((value-none (propagated old) v).0 e).0 m
-    signs v false m e = ((value-none (propagated old) v).0 e).1 m
+    pub room : length start.assumed ≤ 4096 → HasRoom old
+    room few = (length start.assumed, few, before.distinct)
 
-    old_assumed : (l : Lit) → Contains before.assumed l → Contains old.assumed l
-    old_assumed l m = subst (λ (p : Propagation). Contains p.assumed l) (sym before.is) (Contains-append_right start.assumed before.assumed l m)
-
-    new_variable : value_of (propagated old) literal.var ≡ None → ¬ Contains (map (λ (l : Lit). l.var) before.assumed) literal.var
-    new_variable e m =
-        let of = from_map (λ (l : Lit). l.var) before.assumed literal.var m in
-        signs of.0.var of.0.positive (assumed-closed old of.0 (old_assumed of.0 of.1)) (ap (value_of (propagated old)) of.2 ∙ e)
-
-    pub room : literal.var < start.problem.variables → length start.assumed ≤ 4096 → value_of (propagated old) literal.var ≡ None → length old.assumed < old.problem.variables + 4096
-    room below few e =
-        let count = distinct-few start.problem.variables (literal.var ∷ map (λ (l : Lit). l.var) before.assumed) (new_variable e, before.distinct) (All-cons (λ v. v < start.problem.variables) literal.var (map (λ (l : Lit). l.var) before.assumed) below before.below) in
-        let size : length (map (λ (l : Lit). l.var) before.assumed) ≡ length before.assumed = length-map before.assumed (λ (l : Lit). l.var) in
-        let all : length old.assumed ≡ length start.assumed + length before.assumed = ap (λ (p : Propagation). length p.assumed) before.is ∙ length-append start.assumed before.assumed in
-        let same : old.problem.variables ≡ start.problem.variables = ap (λ (p : Propagation). p.problem.variables) before.is in
-        let suc_count : length (literal.var ∷ map (λ (l : Lit). l.var) before.assumed) ≡ length (map (λ (l : Lit). l.var) before.assumed) + 1 = omega arith in
-        omega arith
+    -- the negation is about the same problem
+    pub variable : IsBelow start.problem.variables literal → IsBelow old.problem.variables (negation literal)
+    variable below = subst (λ (p : Propagation). literal.var < p.problem.variables) (sym before.is) below
 
     longer : IsPart (propagated start ++ negations line) (propagated start ++ negations (line ++ literal ∷ []))
     longer = more-negations line (line ++ literal ∷ []) (λ l m. Contains-append_left line (literal ∷ []) l m)
@@ -191,9 +124,8 @@ module _ (start : Propagation) where
           (λ (was : Contains line l). before.negative l was)
           (λ (e : literal ≡ l). subst (λ k. Contains (closure (propagated old)) (negation k)) e negative)
           (Contains-push_cases line literal l m));
-      calm = before.calm;
+      no_clash = before.no_clash;
       distinct = before.distinct;
-      below = before.below;
     }
 
     abbrev pushed : Propagation
@@ -204,8 +136,8 @@ module _ (start : Propagation) where
         ap (λ (p : Propagation). record p { assumed = p.assumed ++ negation literal ∷ [] }) before.is
         ∙ ap (λ assumed. record start { assumed = assumed }) (append_assoc start.assumed before.assumed (negation literal ∷ []))
 
-    open_next : value_of (propagated old) literal.var ≡ None → literal.var < start.problem.variables → clash (propagated pushed) ≡ false → IsFalsified start pushed (line ++ literal ∷ [])
-    open_next open_value below calm = record {
+    open_next : AreDistinctBehind (length start.assumed) pushed → clash (propagated pushed) ≡ false → IsFalsified start pushed (line ++ literal ∷ [])
+    open_next distinct no_clash = record {
       assumed = before.assumed ++ negation literal ∷ [];
       is = pushed_is;
       within = (λ clause m. next_within clause (subst (λ cs. Contains cs clause) (propagated-push old (negation literal)) m));
@@ -217,35 +149,31 @@ module _ (start : Propagation) where
           (negation l) (before.negative l was))
           (λ (e : literal ≡ l). subst (λ k. Contains (closure (propagated pushed)) (negation k)) e (new-closed old pushed (negation literal) refl))
           (Contains-push_cases line literal l m));
-      calm = calm;
-      distinct =
-          subst IsDistinct (sym (map-append (λ (l : Lit). l.var) before.assumed (negation literal ∷ [])))
-          (distinct-push (map (λ (l : Lit). l.var) before.assumed) literal.var before.distinct (new_variable open_value));
-      below =
-          subst (All (λ v. v < start.problem.variables)) (sym (map-append (λ (l : Lit). l.var) before.assumed (negation literal ∷ [])))
-          (All-push (λ v. v < start.problem.variables) (map (λ (l : Lit). l.var) before.assumed) literal.var before.below below);
+      no_clash = no_clash;
+      distinct = distinct;
     }
 
-    pub falsified-next : (new : Propagation) → literal.var < start.problem.variables → IsNegated old literal new → Contains (closure (propagated new)) (negation literal) → clash (propagated new) ≡ false
+    pub falsified-next : (new : Propagation) → IsMadeTrue old (negation literal) new → ((count : ℕ) → AreDistinctBehind count old → AreDistinctBehind count new) → Contains (closure (propagated new)) (negation literal) → clash (propagated new) ≡ false
         → IsFalsified start new (line ++ literal ∷ [])
-    falsified-next new below negated negative calm =
+    falsified-next new made distinct negative no_clash =
         ⊎_elim
         (λ (e : new ≡ old). subst (λ at. IsFalsified start at (line ++ literal ∷ [])) (sym e) (known_next (subst (λ at. Contains (closure (propagated at)) (negation literal)) e negative)))
         (λ (o : (value_of (propagated old) literal.var ≡ None) × (new ≡ pushed)).
-        subst (λ at. IsFalsified start at (line ++ literal ∷ [])) (sym o.1) (open_next o.0 below (subst (λ at. clash (propagated at) ≡ false) o.1 calm)))
-        negated
+        subst (λ at. IsFalsified start at (line ++ literal ∷ [])) (sym o.1)
+        (open_next (subst (AreDistinctBehind (length start.assumed)) o.1 (distinct (length start.assumed) before.distinct)) (subst (λ at. clash (propagated at) ≡ false) o.1 no_clash)))
+        made
 
-    pub behind-next : (new : Propagation) → IsNegated old literal new → IsBehind start new
-    behind-next new negated =
+    pub behind-next : (new : Propagation) → IsMadeTrue old (negation literal) new → IsBehind start new
+    behind-next new made =
         ⊎_elim
         (λ (e : new ≡ old). (before.assumed, e ∙ before.is))
         (λ (o : (value_of (propagated old) literal.var ≡ None) × (new ≡ pushed)). (before.assumed ++ negation literal ∷ [], o.1 ∙ pushed_is))
-        negated
+        made
 
   -- where none of the literals clashes the line doesn't follow
   pub falsified-all : (at : Propagation) (line : List Lit) → IsFalsified start at line → follows (propagated start) line ≡ false
   falsified-all at line is =
-      units-calm (propagated at) (propagated start ++ negations line) is.calm (λ clause m.
+      units-no_clash (propagated at) (propagated start ++ negations line) is.no_clash (λ clause m.
       ⊎_elim
       (λ (was : Contains (propagated start) clause).
       inl

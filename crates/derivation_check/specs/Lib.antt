@@ -1,3 +1,3 @@
 pub mod Checking
 pub mod Examples
-pub mod Negations
+pub mod inside

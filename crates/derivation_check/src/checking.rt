@@ -8,10 +8,9 @@ ghost use Rattle.derivation_check.specs.Checking.{answer_of, check, ends_empty, 
 
 use crate::checked::Checked;
 use crate::negations::follows;
-use clauses::{Lit, Problem};
+use clauses::{Derivation, Lit, Problem};
 use propagation::{Propagator, with_roots};
 use req_keys::Key;
-use solver::Derivation;
 use std::alloc::{AllocError, Global};
 
 /// Checks that each line follows from the problem's clauses, the roots of the key and the lines before it, by reverse
@@ -35,6 +34,7 @@ pub fn checks(
     Ok(answer_of(wrong, ends_empty(lines)))
 }
 
+/// What the first wrong line, if any, and the end come to.
 fn answer_of(first_wrong: Option<u32>, ended: bool) -> Checked
     ensures { result ≡ answer_of first_wrong ended }
 {
@@ -61,7 +61,7 @@ fn first_wrong(
         return Ok(None);
     };
     for (number, line) in lines.as_slice().iter().enumerate() {
-        if !learns(&mut propagator, key.len(), line.as_slice())? {
+        if !accepts(&mut propagator, key.len(), line.as_slice())? {
             return Ok(Some(number as u32));
         }
     }
@@ -69,7 +69,7 @@ fn first_wrong(
 }
 
 /// Whether the line follows from what is propagated; if so it is learned.
-fn learns(propagator: &mut Propagator<'_>, roots: u32, line: &[Lit]) -> Result<bool, AllocError>
+fn accepts(propagator: &mut Propagator<'_>, roots: u32, line: &[Lit]) -> Result<bool, AllocError>
     requires variables { All (IsBelow propagator.old.problem.variables) line.now }
     requires roots { roots ≡ length propagator.old.assumed }
     requires few { roots ≤ 4096 }

@@ -1,61 +1,32 @@
-//! Checks over problems of six variables, worked by hand. A letter is a literal: a to f are the variables, in order, and
-//! capital letters their negations. A word is a clause.
+//! Checks over problems of six variables, worked by hand. A letter is a literal, a word is a clause.
 ghost use Rattle.std.specs.Prelude.{◌≡◌, ◌<◌, All, IfOk, length};
 ghost use Rattle.clauses.specs.Problem.{IsBelow};
 
 use crate::{Checked, checks};
-use clauses::{Clause, Clauses, Lit, Lits, Problem};
+use clauses::{Clauses, Lits, Problem, clauses_of, literal_of};
 use req_keys::Key;
-use solver::{Answer, NoStop, solve};
 use std::alloc::{AllocError, Global};
 use std::test::Fail;
 
-fn literal_of(letter: u8) -> Lit
-    ensures { IsBelow 6 result }
-{
-    Lit {
-        var: (u32::from(letter | 0x20) + 5) % 6,
-        positive: letter >= b'a',
-    }
-}
-
-fn clause_of(alloc: Global, word: &str) -> Result<Clause, AllocError>
-    ensures { IfOk result (All (IsBelow 6)) }
-{
-    let mut clause = Clause::new(alloc);
-    for letter in word.as_bytes() {
-        clause.push(literal_of(*letter))?;
-    }
-    Ok(clause)
-}
-
-fn clauses_of(alloc: Global, words: &[&str]) -> Result<Clauses, AllocError>
-    ensures { IfOk result (All (All (IsBelow 6))) }
-{
-    let mut clauses = Clauses::new(alloc);
-    for word in words {
-        clauses.push(clause_of(alloc, word)?)?;
-    }
-    Ok(clauses)
-}
-
+/// The problem of the row.
 fn problem_of(alloc: Global, row: &Row) -> Result<Problem, AllocError>
     ensures { IfOk result (λ problem. problem.variables ≡ 6) }
 {
     let mut roots = Lits::new(alloc);
     if row.roots != b"  " {
-        roots.push(literal_of(row.roots[0]))?;
-        roots.push(literal_of(row.roots[1]))?;
+        roots.push(literal_of(6, row.roots[0]))?;
+        roots.push(literal_of(6, row.roots[1]))?;
     }
     Ok(Problem {
         variables: 6,
         features: 6,
-        clauses: clauses_of(alloc, row.clauses)?,
+        clauses: clauses_of(alloc, 6, row.clauses)?,
         roots,
         allowance: 3,
     })
 }
 
+/// Lines, and what they are.
 #[derive(Clone, Copy)]
 struct Row {
     clauses: &'static [&'static str],
@@ -76,10 +47,12 @@ const CUBE: &[&str] = &["a", "bcd", "bcD", "bCd", "bCD", "Bcd", "BcD", "BCd", "B
 /// Where a and b are true, each choice of c and d is forbidden.
 const UNDER_BOTH: &[&str] = &["ABcd", "ABcD", "ABCd", "ABCD"];
 
+/// A row without roots.
 fn plain(clauses: &'static [&'static str], lines: &'static [&'static str], answer: Checked) -> Row {
     rooted(clauses, b"  ", false, lines, answer)
 }
 
+/// A row with two roots.
 fn rooted(
     clauses: &'static [&'static str],
     roots: &'static [u8; 2],
@@ -96,6 +69,7 @@ fn rooted(
     }
 }
 
+/// Worked by hand.
 fn rows() -> [Row; 24] {
     [
         plain(FORBIDDEN, &["b", ""], Checked::Yes),
@@ -132,6 +106,7 @@ fn rows() -> [Row; 24] {
     ]
 }
 
+/// All requirements or none.
 fn key_of(alloc: Global, row: &Row, problem: &Problem) -> Result<Key, AllocError>
     ensures { IfOk result (λ key. key.n ≡ length problem.now.roots) }
 {
@@ -162,7 +137,7 @@ fn found(
 fn found_of_row(alloc: Global, row: &Row) -> Result<Option<Checked>, AllocError> {
     let problem = problem_of(alloc, row)?;
     let key = key_of(alloc, row, &problem)?;
-    let lines = clauses_of(alloc, row.lines)?;
+    let lines = clauses_of(alloc, 6, row.lines)?;
     found(alloc, &problem, &key, &lines)
 }
 
@@ -177,31 +152,6 @@ fn checks_as_by_hand(rt: HostRuntime) -> Result<(), Fail> {
             row.lines,
             row.clauses
         );
-    }
-    Ok(())
-}
-
-/// The answer to the lines of the search; None if it has none.
-fn found_of_search(alloc: Global, row: &Row) -> Result<Option<Checked>, AllocError> {
-    let problem = problem_of(alloc, row)?;
-    let key = key_of(alloc, row, &problem)?;
-    match solve(alloc, &problem, &key, &mut NoStop) {
-        Ok(Answer::Unsat(lines)) => found(alloc, &problem, &key, &lines),
-        Ok(_other) => Ok(None),
-        Err(_error) => Ok(None),
-    }
-}
-
-#[test]
-fn accepts_what_is_learned(rt: HostRuntime) -> Result<(), Fail> {
-    for row in [
-        plain(CUBE, &[], Checked::Yes),
-        plain(FORBIDDEN, &[], Checked::Yes),
-        rooted(UNDER_BOTH, b"ab", true, &[], Checked::Yes),
-        rooted(&[], b"aA", true, &[], Checked::Yes),
-    ] {
-        let found = found_of_search(rt.alloc(), &row)?;
-        assert_eq!(rt; found, Some(Checked::Yes), "over {:?}", row.clauses);
     }
     Ok(())
 }

@@ -6,7 +6,7 @@ use Rattle.std.proofs.lemmas.Bool.{true≢false, false≢true}
 use Rattle.std.proofs.lemmas.List.{take-append-drop, take_more}
 use Rattle.std.proofs.lemmas.List.Elements.{All-push, All-contains, Contains-push_cases, Contains-append_left, Contains-push, Contains-get_or}
 use Rattle.clauses.specs.declared.literal.Lit.{Lit}
-use Rattle.propagation.specs.Values.{IsFalseIn, IsForced, HasTwoOpen}
+use Rattle.propagation.specs.inside.Values.{IsFalseIn, IsForced, HasTwoOpen}
 
 -- the literals so far are all false, or all but this one
 abbrev pub Rest : List (Option Bool) → List Lit → Option Lit → Type 0

@@ -1,19 +1,21 @@
 -- What stays right when literals are assumed or clauses learned.
-use Rattle.std.proofs.Common.{◌≡◌, ◌∙◌, refl, sym, ap, subst, ⊎_elim, ℕ, ◌<◌, ◌≤◌, Bool, true, false, List, [], ◌∷◌, ◌++◌, map, length, Option, Some, None, arith}
+use Rattle.std.proofs.Common.{◌≡◌, ◌∙◌, refl, sym, ap, subst, ⊎_elim, ℕ, ◌<◌, ◌≤◌, Bool, false, List, [], ◌∷◌, ◌++◌, map, length, Option, Some, None, arith}
 use Rattle.std.specs.Prelude.{Contains}
 use Rattle.std.proofs.Math.ListN.{get_or-eq_default}
+use Rattle.std.proofs.lemmas.List.{map-append}
 use Rattle.std.proofs.lemmas.List.Elements.{Contains-append_left, Contains-append_right, Contains-append_cases}
 use Rattle.req_keys.specs.Key.{PositionSet}
 use Rattle.clauses.specs.declared.literal.Lit.{Lit}
 use Rattle.clauses.specs.Clause.{negative_of, unit_of}
-use Rattle.clauses.specs.Closure.{closure, clash, AreAmong}
-use Rattle.clauses.specs.Problem.{ClauseProblem, clauses_with, roots_at}
+use Rattle.clauses.specs.Closure.{clash, AreAmong}
+use Rattle.clauses.specs.Problem.{ClauseProblem, IsBelow, clauses_with, roots_at}
 use Rattle.clauses.specs.Search.{Standing, all_false, under}
 use Rattle.lists.proofs.Members.{from_map, to_map}
 use Rattle.clauses.proofs.LeastLaws.{closure-among}
-use Rattle.propagation.specs.Propagation.{all_of, propagated, as_searched, value_of}
-use Rattle.propagation.specs.Values.{value_at, IsSound, Shows, IsPart}
-use Rattle.propagation.proofs.ValueLaws.{value-true, value-false, part-among}
+use Rattle.propagation.specs.Propagation.{Propagation, all_of, propagated, as_searched, value_of}
+use Rattle.propagation.specs.inside.UpToDate.{IsUpToDate}
+use Rattle.propagation.specs.inside.Values.{value_at, IsSound, Shows, IsPart}
+use Rattle.propagation.proofs.ValueLaws.{in_closure, part-among}
 
 -- ---- what there is more of
 
@@ -55,19 +57,20 @@ valued-below values var b e =
     let past : length values ≤ var → ⊥ = λ g. none≢some b (sym (get_or-eq_default values None g) ∙ e) in
     omega arith
 
-in_closure : (clauses : List (List Lit)) (var : ℕ) (b : Bool) → clash clauses ≡ false → value_of clauses var ≡ Some b → Contains (closure clauses) (record { var = var; positive = b })
-in_closure clauses var true calm e = (value-true clauses var).0 e
-in_closure clauses var false calm e = (value-false clauses var calm).0 e
-
 pub shown-sound : (a b : List (List Lit)) → AreAmong a b → clash a ≡ false → (values : List (Option Bool)) → Shows a values → IsSound b values
-shown-sound a b within calm values shows = λ l t.
-    closure-among a b within l (in_closure a l.var l.positive calm (sym (shows l.var (valued-below values l.var l.positive t)) ∙ t))
+shown-sound a b within no_clash values shows = λ l t.
+    closure-among a b within l (in_closure a l.var l.positive no_clash (sym (shows l.var (valued-below values l.var l.positive t)) ∙ t))
+
+-- the kept value of a variable, where nothing clashes
+pub kept-value : (at now : Propagation) (values : List (Option Bool)) (clashing : Bool) (room : ℕ) → IsUpToDate at values clashing room → at ≡ now → clash (propagated now) ≡ false
+    → (l : Lit) → IsBelow now.problem.variables l → (kept : Option Bool) → kept ≡ value_at values l.var → kept ≡ value_of (propagated now) l.var
+kept-value at now values clashing room is same no_clash l below kept e =
+    let here : clashing ≡ false = is.answered ∙ ap (λ (p : Propagation). clash (propagated p)) same ∙ no_clash in
+    let variables : at.problem.variables ≡ now.problem.variables = ap (λ (p : Propagation). p.problem.variables) same in
+    let size = is.sized in
+    e ∙ is.shown here l.var (omega arith) ∙ ap (λ (p : Propagation). value_of (propagated p) l.var) same
 
 -- ---- the order of a search
-
-map-append : (a b : List Lit) → map unit_of (a ++ b) ≡ map unit_of a ++ map unit_of b
-map-append [] b = refl
-map-append (x ∷ a) b = ap (λ r. unit_of x ∷ r) (map-append a b)
 
 map-decisions : (variables : List ℕ) → map unit_of (map negative_of variables) ≡ all_false variables
 map-decisions [] = refl
@@ -112,7 +115,7 @@ module _ (problem : ClauseProblem) (key : PositionSet) (now : Standing) where
   split : propagated (as_searched problem key now) ≡ (problem.clauses ++ now.learned) ++ (roots ++ all_false now.decisions)
   split =
       ap (λ r. (problem.clauses ++ now.learned) ++ r)
-      (map-append (roots_at problem key) (map negative_of now.decisions) ∙ ap (λ r. roots ++ r) (map-decisions now.decisions))
+      (map-append unit_of (roots_at problem key) (map negative_of now.decisions) ∙ ap (λ r. roots ++ r) (map-decisions now.decisions))
 
   pub searched-there : AreAmong (propagated (as_searched problem key now)) (under (clauses_with problem key) now)
   searched-there =

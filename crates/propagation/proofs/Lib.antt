@@ -3,3 +3,4 @@ pub mod EffectLaws
 pub mod ScanLaws
 pub mod GrowthLaws
 pub mod RootLaws
+pub mod RoomLaws

@@ -8,6 +8,7 @@ use Rattle.std.proofs.lemmas.List.Elements.{Contains-append_left, Contains-appen
 use Rattle.std.proofs.lemmas.Option.{slice_get_within, get_or_from_slice_get}
 use Rattle.req_keys.specs.Key.{PositionSet, IsKey}
 use Rattle.req_keys.specs.Positions.{RiseWithin}
+use Rattle.req_keys.proofs.PositionsLaws.{length-RiseWithin}
 use Rattle.clauses.specs.declared.literal.Lit.{Lit}
 use Rattle.clauses.specs.Clause.{unit_of}
 use Rattle.clauses.specs.Closure.{clash}
@@ -19,10 +20,6 @@ use Rattle.propagation.specs.Roots.{AreRooted}
 use Rattle.propagation.proofs.ValueLaws.{part-among}
 
 -- ---- positions that ascend
-
-pub rise-few : (low high : ℕ) (xs : List ℕ) → RiseWithin low high xs → length xs ≤ high - low
-rise-few low high [] rise = omega arith
-rise-few low high (x ∷ xs) rise = let rest = rise-few x high xs rise.2 in let above = rise.0 in let most = rise.1 in omega arith
 
 pub rise-at : (low high : ℕ) (xs : List ℕ) (i d : ℕ) → RiseWithin low high xs → i < length xs → (low < get_or xs i d) × (get_or xs i d ≤ high)
 rise-at low high [] i d rise inside = absurd (omega arith)
@@ -45,27 +42,27 @@ module _ (problem : ClauseProblem) where
   pub record AreAssumed (at : Propagation) (positions : List ℕ) : Type 0 where
     pub is : at ≡ record { problem = problem; assumed = roots_for positions; learned = [] }
     pub counted : length at.assumed ≡ length positions
-    pub calm : clash (propagated at) ≡ false
+    pub no_clash : clash (propagated at) ≡ false
 
   abbrev made : ClauseProblem → List Lit → List (List Lit) → Propagation
   made about assumed learned = record { problem = about; assumed = assumed; learned = learned }
 
   pub assumed-none : (at : Propagation) → at.problem ≡ problem → at.assumed ≡ [] → at.learned ≡ [] → clash (propagated at) ≡ false → AreAssumed at []
-  assumed-none at p a l calm = record {
+  assumed-none at p a l no_clash = record {
     is = ap (λ about. made about at.assumed at.learned) p ∙ ap (λ assumed. made problem assumed at.learned) a ∙ ap (made problem []) l;
     counted = ap length a;
-    calm = calm;
+    no_clash = no_clash;
   }
 
   pub assumed-next : (old new : Propagation) (positions : List ℕ) (position : ℕ) (root : Lit) → AreAssumed old positions → root_at position ≡ Some root
       → new ≡ record old { assumed = old.assumed ++ root ∷ [] } → clash (propagated new) ≡ false → AreAssumed new (positions ++ position ∷ [])
-  assumed-next old new positions position root before e n calm = record {
+  assumed-next old new positions position root before e n no_clash = record {
     is =
         n
         ∙ ap (λ (at : Propagation). record at { assumed = at.assumed ++ root ∷ [] }) before.is
         ∙ ap (λ assumed. made problem assumed []) (sym (roots-push positions position root e));
     counted = ap (λ (at : Propagation). length at.assumed) n ∙ length_push old.assumed root ∙ ap (λ k. k + 1) before.counted ∙ sym (length_push positions position);
-    calm = calm;
+    no_clash = no_clash;
   }
 
   -- the literals at some of the positions clash with the clauses only where all do
@@ -108,7 +105,7 @@ module _ (problem : ClauseProblem) where
 
 module _ (key : PositionSet) (is_key : IsKey key) (items : List ℕ) (same : items ≡ key.members) where
   pub items-few : length items ≤ key.n
-  items-few = let few = rise-few 0 key.n key.members is_key.1 in let size = ap length same in omega arith
+  items-few = let few = length-RiseWithin 0 key.n key.members is_key.1 in let size = ap length same in omega arith
 
   pub item-bounds : (i : ℕ) → i < length items → (1 ≤ get_or items i 0) × (get_or items i 0 ≤ key.n)
   item-bounds i inside =
@@ -126,9 +123,9 @@ pub clash-from_not : (b : Bool) (r : Bool) → r ≡ not b → r ≡ false → b
 clash-from_not true r e f = refl
 clash-from_not false r e f = absurd (true≢false (sym e ∙ f))
 
-pub calm-from_not : (b : Bool) (r : Bool) → r ≡ not b → r ≡ true → b ≡ false
-calm-from_not true r e t = absurd (true≢false (sym t ∙ e))
-calm-from_not false r e t = refl
+pub no_clash-from_not : (b : Bool) (r : Bool) → r ≡ not b → r ≡ true → b ≡ false
+no_clash-from_not true r e t = absurd (true≢false (sym t ∙ e))
+no_clash-from_not false r e t = refl
 
 -- where the roots of all positions of the key are assumed
 pub rooted-all : (problem : ClauseProblem) (key : PositionSet) (items : List ℕ) → items ≡ key.members → IsKey key → (at : Propagation) → AreAssumed problem at items → AreRooted problem key at
@@ -136,7 +133,7 @@ rooted-all problem key items same is_key at are = record {
   is = are.is ∙ ap (λ positions. made problem (roots_for problem positions) []) same;
   counted = are.counted ∙ ap length same;
   few = (let counted = are.counted in let few = items-few key is_key items same in let most = is_key.0 in omega arith);
-  calm = are.calm;
+  no_clash = are.no_clash;
 }
   where
     made : ClauseProblem → List Lit → List (List Lit) → Propagation

@@ -12,7 +12,7 @@ use Rattle.clauses.specs.Closure.{closure, clash, IsClosed}
 use Rattle.lists.proofs.Members.{first}
 use Rattle.clauses.proofs.LeastLaws.{closure-closed, closure-least, clash-iff}
 use Rattle.propagation.specs.Propagation.{value_of}
-use Rattle.propagation.specs.Values.{value_at, IsTrueIn, IsFalseIn, IsSound, IsPart, open_count, IsForced, HasTwoOpen, IsSettled, IsScan, Finds, Shows, joined}
+use Rattle.propagation.specs.inside.Values.{value_at, IsTrueIn, IsFalseIn, IsSound, IsPart, open_count, IsForced, HasTwoOpen, IsSettled, IsScan, Finds, Shows, joined}
 use Rattle.propagation.specs.declared.scan.Found.{Found}
 use Rattle.propagation.specs.declared.scan.Found.TheVariants.{NothingNew, Value, Clash}
 use Rattle.propagation.proofs.ValueLaws.{All-members, Any-member, member-Any, same_or_not, value-true, false-from, none-from}
@@ -225,9 +225,9 @@ module _ (clauses learned units : List (List Lit)) where
       (λ (u : Contains units clause). Contains-append_left (units ++ learned) clauses clause (Contains-append_left units learned clause u))
       (Contains-append_cases (clauses ++ learned) units clause m)
 
-  module _ (old one new : List (Option Bool)) (f g second : Found) (joint : second ≡ joined f g) (first : IsScan units old one f) (calm : ¬ f ≡ Clash) where
+  module _ (old one new : List (Option Bool)) (f g second : Found) (joint : second ≡ joined f g) (first : IsScan units old one f) (no_clash : ¬ f ≡ Clash) where
     two : (mid : List (Option Bool)) → IsScan learned one mid g → IsScan (units ++ learned) old mid second
-    two mid s = subst (λ h. IsScan (units ++ learned) old mid h) (sym joint) (IsScan-then units learned old one mid f g first calm s)
+    two mid s = subst (λ h. IsScan (units ++ learned) old mid h) (sym joint) (IsScan-then units learned old one mid f g first no_clash s)
 
     pub scan_all-clash : IsScan learned one new g → second ≡ Clash → IsScan ((clauses ++ learned) ++ units) old new Clash
     scan_all-clash s e =
@@ -287,8 +287,8 @@ module _ (clauses : List (List Lit)) (values : List (Option Bool)) (sound : IsSo
     closure-true : (l : Lit) → Contains (closure clauses) l → IsTrueIn values l
     closure-true = closure-least clauses (IsTrueIn values) settled-closed
 
-    pub settled-calm : clash clauses ≡ false
-    settled-calm =
+    pub settled-no_clash : clash clauses ≡ false
+    settled-no_clash =
         false_from_ne_true (clash clauses) (λ e.
         let some = member-Any (All (λ l. Contains (closure clauses) (negation l))) clauses ((clash-iff clauses).0 e) in
         (All-contains (IsSettled values) clauses some.0 settled some.1).not_refuted

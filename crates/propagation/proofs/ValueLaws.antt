@@ -59,7 +59,7 @@ both-clash clauses l m n =
     (same_or_not o l))))
 
 pub one_sign : (clauses : List (List Lit)) (l : Lit) → clash clauses ≡ false → Contains (closure clauses) l → ¬ Contains (closure clauses) (negation l)
-one_sign clauses l calm m n = false≢true (sym calm ∙ both-clash clauses l m n)
+one_sign clauses l no_clash m n = false≢true (sym no_clash ∙ both-clash clauses l m n)
 
 -- ---- values
 
@@ -105,9 +105,9 @@ module _ (clauses : List (List Lit)) (var : ℕ) where
       ap (λ b. value_by b no) (has_not (positive_of var) not_yes) ∙ ap (λ b. value_by false b) (has-from (closure clauses) (negative_of var) m)
 
   pub value-false : clash clauses ≡ false → (value_of clauses var ≡ Some false) ↔ Contains (closure clauses) (negative_of var)
-  value-false calm = (
+  value-false no_clash = (
     (λ e. from_has (closure clauses) (negative_of var) (by-false yes no e)),
-    (λ m. false-from (λ n. one_sign clauses (negative_of var) calm m n) m),
+    (λ m. false-from (λ n. one_sign clauses (negative_of var) no_clash m n) m),
   )
 
   pub none-from : ¬ Contains (closure clauses) (positive_of var) → ¬ Contains (closure clauses) (negative_of var) → value_of clauses var ≡ None
@@ -119,6 +119,10 @@ module _ (clauses : List (List Lit)) (var : ℕ) where
     (λ e. let both = by-none yes no e in (out (positive_of var) both.0, out (negative_of var) both.1)),
     (λ both. none-from both.0 both.1),
   )
+
+pub in_closure : (clauses : List (List Lit)) (var : ℕ) (b : Bool) → clash clauses ≡ false → value_of clauses var ≡ Some b → Contains (closure clauses) (record { var = var; positive = b })
+in_closure clauses var true no_clash e = (value-true clauses var).0 e
+in_closure clauses var false no_clash e = (value-false clauses var no_clash).0 e
 
 -- ---- any order
 

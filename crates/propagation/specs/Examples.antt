@@ -49,8 +49,8 @@ tautology-third = refl
 pub assumed-again : value_of (propagated (at ((yes 0 ∷ []) ∷ []) [] (yes 0 ∷ []))) 0 ≡ Some true
 assumed-again = refl
 
-pub assumed-again_calm : clash (propagated (at ((yes 0 ∷ []) ∷ []) [] (yes 0 ∷ []))) ≡ false
-assumed-again_calm = refl
+pub assumed-again_no_clash : clash (propagated (at ((yes 0 ∷ []) ∷ []) [] (yes 0 ∷ []))) ≡ false
+assumed-again_no_clash = refl
 
 -- one whose negation it had is a clash
 pub assumed-against : clash (propagated (at ((yes 0 ∷ []) ∷ []) [] (no 0 ∷ []))) ≡ true

@@ -1,5 +1,5 @@
-pub mod Propagation
-pub mod Roots
-pub mod Values
-pub mod UpToDate
 pub mod Examples
+pub mod Propagation
+pub mod Room
+pub mod Roots
+pub mod inside

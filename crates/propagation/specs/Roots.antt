@@ -10,7 +10,7 @@ pub record AreRooted (problem : ClauseProblem) (key : PositionSet) (at : Propaga
   pub is : at ≡ record { problem = problem; assumed = roots_at problem key; learned = [] }
   pub counted : length at.assumed ≡ length key.members
   pub few : length at.assumed ≤ 4096
-  pub calm : IsFalse (clash (propagated at))
+  pub no_clash : IsFalse (clash (propagated at))
 
 -- there is such a propagation, unless the roots clash with the clauses
 abbrev pub IsRooted : ClauseProblem → PositionSet → Option Propagation → Type 0

@@ -1,8 +1,10 @@
 //! The propagator: scans over all clauses at each change.
-ghost use Rattle.std.specs.Prelude.{◌≡◌, ◌+◌, ◌<◌, ◌≤◌, [], ◌∷◌, ◌++◌, All, IfOk, IsFalse, OnErr, OnOk, length, not, take, vec_capacity};
-ghost use Rattle.clauses.specs.Closure.{clash};
+ghost use Rattle.std.specs.Prelude.{◌≡◌, ◌+◌, ◌<◌, ◌≤◌, [], ◌∷◌, ◌++◌, All, Contains, IfOk, IsFalse, IsTrue, OnErr, OnOk, length, not, take, vec_capacity, ℕ};
+ghost use Rattle.clauses.specs.Clause.{unit_of};
+ghost use Rattle.clauses.specs.Closure.{clash, closure};
 ghost use Rattle.clauses.specs.Problem.{IsBelow};
 ghost use Rattle.propagation.specs.Propagation.{propagated, value_of};
+ghost use Rattle.propagation.specs.Room.{AreDistinctBehind, HasRoom, IsMadeTrue};
 
 use crate::scan::settle;
 use crate::values::Values;
@@ -16,9 +18,11 @@ const ROOM_FOR_POSITIONS: usize = 4096;
 /// A problem with assumed literals and learned clauses, and what unit propagation makes of them.
 #[derive(Drop)]
 pub struct Propagator<'a> {
+    /// What it is about.
     problem: &'a Problem,
     /// With room reserved for as many as there may ever be.
     assumed: Vec<Lit>,
+    /// In the order in which they were learned.
     learned: Clauses,
     /// Whether the clauses with both clash.
     clashing: bool,
@@ -29,7 +33,7 @@ pub struct Propagator<'a> {
 impl<'a> Model for Propagator<'a> {
     ghost use Rattle.std.specs.Prelude.{vec_capacity};
     ghost use Rattle.propagation.specs.Propagation.{Propagation};
-    ghost use Rattle.propagation.specs.UpToDate.{IsUpToDate};
+    ghost use Rattle.propagation.specs.inside.UpToDate.{IsUpToDate};
 
     ghost Value = { Propagation };
 
@@ -61,11 +65,11 @@ impl<'a> Propagator<'a> {
 
     /// Appends the literal to the assumed ones, and answers whether nothing clashes.
     pub fn assume(&mut self, lit: Lit) -> bool
-        requires calm { IsFalse (clash (propagated self.old)) }
+        requires no_clash { IsFalse (clash (propagated self.old)) }
         requires variable { IsBelow self.old.problem.variables lit }
         requires few { length self.old.assumed < self.old.problem.variables + 4096 }
         ensures assumed { self.new ≡ record self.old { assumed = self.old.assumed ++ lit ∷ [] } }
-        ensures calm { result ≡ not (clash (propagated self.new)) }
+        ensures no_clash { result ≡ not (clash (propagated self.new)) }
     {
         self.assumed.push_reserved(lit);
         self.clashing = settle(
@@ -75,6 +79,24 @@ impl<'a> Propagator<'a> {
             &mut self.values,
         );
         !self.clashing
+    }
+
+    /// Sees to it that the literal is true, and answers whether nothing clashes. It is assumed unless its variable has a
+    /// value already.
+    pub fn make_true(&mut self, literal: Lit) -> bool
+        requires no_clash { IsFalse (clash (propagated self.old)) }
+        requires variable { IsBelow self.old.problem.variables literal }
+        requires room { HasRoom self.old }
+        ensures assumed { IsMadeTrue self.old literal self.new }
+        ensures distinct { (count : ℕ) → AreDistinctBehind count self.old → AreDistinctBehind count self.new }
+        ensures closed { IsTrue result → Contains (closure (propagated self.new)) literal }
+        ensures no_clash { IsTrue result → IsFalse (clash (propagated self.new)) }
+        ensures clash { IsFalse result → IsTrue (clash (propagated self.old ++ unit_of literal ∷ [])) }
+    {
+        match self.values.get(literal.var) {
+            Some(value) => value == literal.positive,
+            None => self.assume(literal),
+        }
     }
 
     /// Keeps the first `count` assumed literals.
@@ -96,7 +118,7 @@ impl<'a> Propagator<'a> {
     pub fn learn(&mut self, clause: &[Lit]) -> Result<bool, AllocError>
         requires { All (IsBelow self.old.problem.variables) clause.now }
         ensures ok { OnOk result (self.new ≡ record self.old { learned = self.old.learned ++ clause.now ∷ [] }) }
-        ensures calm { IfOk result (λ calm. calm ≡ not (clash (propagated self.new))) }
+        ensures no_clash { IfOk result (λ no_clash. no_clash ≡ not (clash (propagated self.new))) }
         ensures err { OnErr result (self.new ≡ self.old) }
     {
         let clause = Clause::from_slice(*self.assumed.allocator(), clause)?;
@@ -121,11 +143,18 @@ impl<'a> Propagator<'a> {
 
     /// The value that the closure gives the variable, if any.
     pub fn value(&self, var: u32) -> Option<bool>
-        requires calm { IsFalse (clash (propagated self.now)) }
+        requires no_clash { IsFalse (clash (propagated self.now)) }
         requires variable { var < self.now.problem.variables }
         ensures { result ≡ value_of (propagated self.now) var }
     {
         self.values.get(var)
+    }
+
+    /// The learned clauses so far, in their order.
+    pub fn learned(&self) -> &Clauses
+        ensures { result.now ≡ self.now.learned }
+    {
+        &self.learned
     }
 
     /// The learned clauses, in their order.

@@ -4,7 +4,7 @@ ghost use Rattle.clauses.specs.Clause.{unit_of};
 ghost use Rattle.clauses.specs.Closure.{clash};
 ghost use Rattle.clauses.specs.Problem.{IsBelow};
 ghost use Rattle.propagation.specs.Propagation.{all_of};
-ghost use Rattle.propagation.specs.Values.{ComesTo, IsScan, IsSound, Shows, joined};
+ghost use Rattle.propagation.specs.inside.Values.{ComesTo, IsScan, IsSound, Shows, joined};
 
 use crate::values::Values;
 use clauses::{Clause, Clauses, Lit, Problem};
@@ -32,6 +32,7 @@ pub(crate) enum Found {
 }
 
 impl Found {
+    /// Whether a clause is refuted.
     fn is_clash(self) -> bool
         ensures { IsTrue result ↔ (self ≡ Found.Clash) }
     {
@@ -56,6 +57,7 @@ fn is_same(only: Option<Lit>, literal: Lit) -> bool
     only == Some(literal)
 }
 
+/// What the clause comes to under the values.
 fn effect_of(clause: &[Lit], values: &Values) -> Effect
     requires { All (IsBelow (length values.now)) clause.now }
     ensures { ComesTo values.now clause.now result }

@@ -1,48 +1,25 @@
-//! Propagators over problems of four variables, worked by hand. A letter is a literal: a to d are the variables, in
-//! order, and capital letters their negations. A word is a clause.
-ghost use Rattle.std.specs.Prelude.{◌≡◌, ◌<◌, All, IfOk};
-ghost use Rattle.clauses.specs.Problem.{IsBelow};
+//! Propagators over problems of four variables, worked by hand. A letter is a literal, a word is a clause.
+ghost use Rattle.std.specs.Prelude.{◌≡◌, IfOk};
 
 use crate::{Propagator, with_roots};
-use clauses::{Clause, Clauses, Lit, Lits, Problem};
+use clauses::{Clauses, Lits, Problem, clause_of, clauses_of, literal_of};
 use req_keys::Key;
 use std::alloc::{AllocError, Global};
 
-fn literal_of(letter: u8) -> Lit
-    ensures { IsBelow 4 result }
-{
-    Lit {
-        var: (u32::from(letter) + 3) % 4,
-        positive: letter >= b'a',
-    }
-}
-
-fn clause_of(alloc: Global, word: &str) -> Result<Clause, AllocError>
-    ensures { IfOk result (All (IsBelow 4)) }
-{
-    let mut clause = Clause::new(alloc);
-    for letter in word.as_bytes() {
-        clause.push(literal_of(*letter))?;
-    }
-    Ok(clause)
-}
-
+/// The problem of the words, without roots.
 fn problem_of(alloc: Global, words: &[&str]) -> Result<Problem, AllocError>
     ensures { IfOk result (λ problem. problem.variables ≡ 4) }
 {
-    let mut clauses = Clauses::new(alloc);
-    for word in words {
-        clauses.push(clause_of(alloc, word)?)?;
-    }
     Ok(Problem {
         variables: 4,
         features: 4,
-        clauses,
+        clauses: clauses_of(alloc, 4, words)?,
         roots: Lits::new(alloc),
         allowance: 0,
     })
 }
 
+/// A propagator, and the values that it tells.
 struct Row {
     clauses: &'static [&'static str],
     learned: &'static [&'static str],
@@ -52,6 +29,7 @@ struct Row {
     values: &'static [u8; 4],
 }
 
+/// A value as a letter.
 fn sign_of(value: Option<bool>) -> u8 {
     match value {
         Some(true) => b'1',
@@ -60,6 +38,7 @@ fn sign_of(value: Option<bool>) -> u8 {
     }
 }
 
+/// The values of all variables, or exclamation marks.
 fn signs_of(propagator: &Propagator<'_>) -> [u8; 4]
     requires { propagator.now.problem.variables ≡ 4 }
 {
@@ -74,21 +53,23 @@ fn signs_of(propagator: &Propagator<'_>) -> [u8; 4]
     ]
 }
 
+/// Those of the propagator of the row.
 fn signs_at(alloc: Global, row: &Row) -> Result<[u8; 4], AllocError> {
     let problem = problem_of(alloc, row.clauses)?;
     let mut propagator = Propagator::new(alloc, &problem)?;
     for word in row.learned {
-        let clause = clause_of(alloc, word)?;
+        let clause = clause_of(alloc, 4, word)?;
         propagator.learn(clause.as_slice())?;
     }
     for letter in row.assumed {
         if *letter != b' ' && !propagator.clashes() {
-            propagator.assume(literal_of(*letter));
+            propagator.assume(literal_of(4, *letter));
         }
     }
     Ok(signs_of(&propagator))
 }
 
+/// Worked by hand.
 const ROWS: [Row; 14] = [
     // no clauses, and a variable in none of them
     Row {
@@ -197,8 +178,8 @@ fn values_of_the_closure(rt: HostRuntime) -> Result<(), AllocError> {
 fn going_back_takes_a_clash_back(rt: HostRuntime) -> Result<(), AllocError> {
     let problem = problem_of(rt.alloc(), &["Ab", "BC"])?;
     let mut propagator = Propagator::new(rt.alloc(), &problem)?;
-    assert!(rt; !propagator.clashes() && propagator.assume(literal_of(b'a')));
-    assert!(rt; !propagator.assume(literal_of(b'c')));
+    assert!(rt; !propagator.clashes() && propagator.assume(literal_of(4, b'a')));
+    assert!(rt; !propagator.assume(literal_of(4, b'c')));
     propagator.back_to(1);
     assert!(rt; signs_of(&propagator) == *b"110-");
     Ok(())
@@ -208,8 +189,8 @@ fn going_back_takes_a_clash_back(rt: HostRuntime) -> Result<(), AllocError> {
 fn learned_clauses_reach_what_is_assumed(rt: HostRuntime) -> Result<(), AllocError> {
     let problem = problem_of(rt.alloc(), &["Ab", "BC"])?;
     let mut propagator = Propagator::new(rt.alloc(), &problem)?;
-    assert!(rt; !propagator.clashes() && propagator.assume(literal_of(b'a')));
-    assert!(rt; propagator.learn(&[literal_of(b'A'), literal_of(b'd')])?);
+    assert!(rt; !propagator.clashes() && propagator.assume(literal_of(4, b'a')));
+    assert!(rt; propagator.learn(&[literal_of(4, b'A'), literal_of(4, b'd')])?);
     assert!(rt; signs_of(&propagator) == *b"1101");
     Ok(())
 }
@@ -221,15 +202,28 @@ fn learned_clauses_stay(rt: HostRuntime) -> Result<(), AllocError> {
     assert!(rt; !propagator.learn(&[])?);
     propagator.back_to(0);
     assert!(rt; propagator.clashes());
+    assert!(rt; propagator.learned().len() == 1);
     assert!(rt; propagator.into_learned().len() == 1);
+    Ok(())
+}
+
+#[test]
+fn known_literals_are_not_assumed(rt: HostRuntime) -> Result<(), AllocError> {
+    let problem = problem_of(rt.alloc(), &["Ab"])?;
+    let mut propagator = Propagator::new(rt.alloc(), &problem)?;
+    assert!(rt; !propagator.clashes() && propagator.make_true(literal_of(4, b'a')));
+    assert!(rt; propagator.make_true(literal_of(4, b'b')));
+    assert!(rt; signs_of(&propagator) == *b"11--");
+    assert!(rt; !propagator.make_true(literal_of(4, b'B')));
+    assert!(rt; signs_of(&propagator) == *b"11--");
     Ok(())
 }
 
 #[test]
 fn roots_are_assumed(rt: HostRuntime) -> Result<(), AllocError> {
     let mut roots = Lits::new(rt.alloc());
-    roots.push(literal_of(b'a'))?;
-    roots.push(literal_of(b'B'))?;
+    roots.push(literal_of(4, b'a'))?;
+    roots.push(literal_of(4, b'B'))?;
     let problem = Problem {
         variables: 4,
         features: 4,

@@ -1,6 +1,6 @@
 //! The values of the variables.
 ghost use Rattle.std.specs.Prelude.{◌≡◌, ◌<◌, ◌↔◌, IsTrue, length, replicate, IfOk, slice_set, Some, None};
-ghost use Rattle.propagation.specs.Values.{IsFalseIn, value_at};
+ghost use Rattle.propagation.specs.inside.Values.{IsFalseIn, value_at};
 
 use clauses::Lit;
 use std::alloc::{AllocError, Global};
@@ -9,6 +9,7 @@ use std::marker::Model;
 /// A value for each variable, where it has one.
 #[derive(Drop)]
 pub(crate) struct Values {
+    /// By the variable's number.
     items: Vec<Option<bool>>,
 }
 
@@ -29,6 +30,7 @@ impl Values {
         Ok(Values { items })
     }
 
+    /// The value of the variable, if any.
     pub(crate) fn get(&self, var: u32) -> Option<bool>
         requires { var < length self.now }
         ensures { result ≡ value_at self.now var }
@@ -36,6 +38,7 @@ impl Values {
         self.items[var as usize]
     }
 
+    /// Whether the values make the literal false.
     pub(crate) fn is_false(&self, literal: Lit) -> bool
         requires { literal.var < length self.now }
         ensures { IsTrue result ↔ IsFalseIn self.now literal }

@@ -5,8 +5,7 @@ use Rattle.std.specs.List.{range_with_len, position_or_len}
 use Rattle.std.specs.Option.{is_some, option_eq}
 use Rattle.std.proofs.Math.Bool.{beq}
 use Rattle.std.proofs.lemmas.Bool.{false≢true, true≢false, cases_eq, lt-ltb, ltb-false, eqb-true}
-use Rattle.std.proofs.lemmas.List.{append-nil, get_or-reverse, length-reverse, length_push, take_all}
-use Rattle.std.proofs.lemmas.List.FromFn.{length-range_with_len, get_or-range_with_len}
+use Rattle.std.proofs.lemmas.List.{append-nil, map-append, get_or-reverse, length-reverse, length_push, take_all}
 use Rattle.std.proofs.lemmas.List.Elements.{All-cons, All-push, All-contains, Contains-append_left, Contains-get_or}
 use Rattle.pref_sets.specs.Greedy.{IsGreedy}
 use Rattle.pref_sets.specs.Trimmed.{IsTrimmed, trimmed_of, without_item}
@@ -16,23 +15,20 @@ use Rattle.clauses.specs.declared.literal.Lit.{Lit}
 use Rattle.clauses.specs.Clause.{has, positive_of, negative_of, unit_of}
 use Rattle.clauses.specs.Closure.{closure, clash, AreAmong}
 use Rattle.clauses.specs.Problem.{IsBelow}
-use Rattle.clauses.specs.Search.{Turn, all_false, some_true, clashing, cut_after, turn_at_learning, up_to}
+use Rattle.clauses.specs.Search.{Turn, all_false, some_true, needed_decisions, cut_after, turn_at_learning, up_to}
 use Rattle.lists.proofs.Members.{none, first, later, first_or_later, from_filter}
-use Rattle.clauses.proofs.TurnLaws.{IsTurn, answers, decides, refutes, gives_up, learns, turn_is}
+use Rattle.clauses.proofs.Cuts.{cut-distinct, cut-within}
+use Rattle.clauses.proofs.TurnLaws.{IsTurn, answers, decides, refutes, gives_up, adds_clause, turn_is}
 use Rattle.clauses.proofs.TrimmedLaws.{trimmed-within}
 use Rattle.propagation.specs.Propagation.{value_of}
 use Rattle.propagation.proofs.ValueLaws.{clash-same, value-same, part-among}
 use Rattle.propagation.proofs.GrowthLaws.{there, back}
-use Rattle.solver.specs.TestLaws.{more-clash}
-use Rattle.solver.specs.Trials.{Trying, with_false, variables_in, Clashes}
-use Rattle.solver.specs.Searching.{Searching, standing, clauses_of, all_under, turn_of, IsShown, IsSearch}
+use Rattle.solver.specs.inside.TestLaws.{more-clash}
+use Rattle.solver.specs.inside.Trials.{Trying, with_false, variables_in, Clashes}
+use Rattle.solver.specs.inside.Searching.{Searching, standing, clauses_of, all_under, turn_of, IsShown, IsSearch}
 use Rattle.lists.proofs.Distinct.{distinct-push}
 
 -- ---- what is tried, in the order of the definition of the search
-
-units-append : (a b : List Lit) → map unit_of (a ++ b) ≡ map unit_of a ++ map unit_of b
-units-append [] b = refl
-units-append (x ∷ a) b = ap (λ rest. unit_of x ∷ rest) (units-append a b)
 
 units-false : (variables : List ℕ) → map unit_of (map negative_of variables) ≡ all_false variables
 units-false [] = refl
@@ -46,7 +42,7 @@ module _ (t : Trying) (decisions : List ℕ) where
   searches = (clauses_of t ++ t.learned) ++ all_false decisions
 
   ordered : tries ≡ (t.problem.clauses ++ t.learned) ++ (map unit_of t.fixed ++ all_false decisions)
-  ordered = ap (λ units. (t.problem.clauses ++ t.learned) ++ units) (units-append t.fixed (map negative_of decisions) ∙ ap (λ units. map unit_of t.fixed ++ units) (units-false decisions))
+  ordered = ap (λ units. (t.problem.clauses ++ t.learned) ++ units) (map-append unit_of t.fixed (map negative_of decisions) ∙ ap (λ units. map unit_of t.fixed ++ units) (units-false decisions))
 
   tries-there : AreAmong tries searches
   tries-there =
@@ -82,12 +78,12 @@ module _ (at : Searching) where
   pub shown-clash : IsShown at → clash shown ≡ clash (all_under at)
   shown-clash is = by_untried is.0 is.1 is.2
 
-  module _ (is : IsShown at) (calm : clash (all_under at) ≡ false) where
-    pub shown-calm : clash shown ≡ false
-    shown-calm = shown-clash is ∙ calm
+  module _ (is : IsShown at) (no_clash : clash (all_under at) ≡ false) where
+    pub shown-no_clash : clash shown ≡ false
+    shown-no_clash = shown-clash is ∙ no_clash
 
     pub shown-all : at.trial.tried ≡ at.decisions
-    shown-all = ⊎_elim (λ (none : is.0 ≡ []). all_tried is.0 is.1 none) (λ (clashes : IsTrue (clash shown)). absurd (false≢true (sym shown-calm ∙ clashes))) is.2
+    shown-all = ⊎_elim (λ (none : is.0 ≡ []). all_tried is.0 is.1 none) (λ (clashes : IsTrue (clash shown)). absurd (false≢true (sym shown-no_clash ∙ clashes))) is.2
 
     pub shown-value : (v : ℕ) → value_of shown v ≡ value_of (all_under at) v
     shown-value v = ap (λ variables. value_of (with_false at.trial variables) v) shown-all ∙ value-searched at.trial at.decisions v
@@ -163,15 +159,15 @@ module _ (at : Searching) where
   comes = turn_is (clauses_of at.trial) at.trial.problem.variables at.trial.problem.allowance (standing at)
 
   learned : (r : Turn) → Comes r → clash (all_under at) ≡ true → ¬ at.decisions ≡ [] → ¬ length at.trial.learned ≡ at.trial.problem.allowance
-      → r ≡ turn_at_learning (standing at) (clashing (clauses_of at.trial ++ at.trial.learned) at.decisions)
+      → r ≡ turn_at_learning (standing at) (needed_decisions (clauses_of at.trial ++ at.trial.learned) at.decisions)
   learned r (answers c o q) e d l = absurd (cc)
   learned r (decides x xs c o q) e d l = absurd (cc)
   learned r (refutes c o q) e d l = absurd (d o)
   learned r (gives_up c x xs o n q) e d l = absurd (l (eqb-true (length at.trial.learned) at.trial.problem.allowance n))
-  learned r (learns c x xs o n q) e d l = q
+  learned r (adds_clause c x xs o n q) e d l = q
 
   pub turn-learns : clash (all_under at) ≡ true → ¬ at.decisions ≡ [] → ¬ length at.trial.learned ≡ at.trial.problem.allowance
-      → turn_of at ≡ turn_at_learning (standing at) (clashing (clauses_of at.trial ++ at.trial.learned) at.decisions)
+      → turn_of at ≡ turn_at_learning (standing at) (needed_decisions (clauses_of at.trial ++ at.trial.learned) at.decisions)
   turn-learns = learned (turn_of at) comes
 
 -- ---- what a clash needs
@@ -206,14 +202,14 @@ module _ (t : Trying) (decisions : List ℕ) (below : All (λ v. v < t.problem.v
   pub clashes-there : IsTrue (test decisions) → Clashes t decisions
   clashes-there = (same_test decisions (λ v m. m)).1
 
-  pub trimmed-clashing : (left : List ℕ) → IsTrimmed (Clashes t) decisions left → left ≡ clashing (clauses_of t ++ t.learned) decisions
-  trimmed-clashing left trimmed =
+  pub trimmed-needed : (left : List ℕ) → IsTrimmed (Clashes t) decisions left → left ≡ needed_decisions (clauses_of t ++ t.learned) decisions
+  trimmed-needed left trimmed =
       IsGreedy-unique (λ set. IsTrue (test set)) without_item (reverse decisions) decisions left (trimmed_of test decisions)
       (agreeing (Clashes t) (λ set. IsTrue (test set)) decisions same_test (reverse decisions) decisions left (λ v m. m) trimmed)
       (IsGreedy-greedy_of test without_item (reverse decisions) decisions)
 
   pub trimmed-part : (left : List ℕ) → IsTrimmed (Clashes t) decisions left → IsWithin left decisions
-  trimmed-part left trimmed v m = trimmed-within test decisions v (subst (λ set. Contains set v) (trimmed-clashing left trimmed) m)
+  trimmed-part left trimmed v m = trimmed-within test decisions v (subst (λ set. Contains set v) (trimmed-needed left trimmed) m)
 
 -- the clause of decisions is about the problem's variables
 pub some_true-below : (n : ℕ) (decisions set : List ℕ) → All (λ v. v < n) decisions → IsWithin set decisions → All (IsBelow n) (some_true set)
@@ -222,37 +218,6 @@ some_true-below n decisions (x ∷ xs) below within =
     All-cons (IsBelow n) (positive_of x) (some_true xs) (All-contains (λ v. v < n) decisions x below (within x (first x xs))) (some_true-below n decisions xs below (λ v m. within v (later x xs v m)))
 
 -- ---- going back
-
-rest-within : (b : Bool) (rest items : List ℕ) → IsWithin rest items → IsWithin (cond b [] rest) items
-rest-within true rest items within v m = absurd (none v m)
-rest-within false rest items within v m = within v m
-
-up_to-within : (last : ℕ) (items : List ℕ) → IsWithin (up_to last items) items
-up_to-within last [] v m = m
-up_to-within last (x ∷ items) v m =
-    ⊎_elim
-    (λ (same : x ≡ v). subst (Contains (x ∷ items)) same (first x items))
-    (λ (rest : Contains (cond (eqb x last) [] (up_to last items)) v). later x items v (rest-within (eqb x last) (up_to last items) items (up_to-within last items) v rest))
-    (first_or_later x (cond (eqb x last) [] (up_to last items)) v m)
-
-rest-distinct : (b : Bool) (x : ℕ) (rest items : List ℕ) → IsWithin rest items → ¬ Contains items x → IsDistinct rest → IsDistinct (x ∷ cond b [] rest)
-rest-distinct true x rest items within new d = (none x, tt)
-rest-distinct false x rest items within new d = ((λ m. new (within x m)), d)
-
-up_to-distinct : (last : ℕ) (items : List ℕ) → IsDistinct items → IsDistinct (up_to last items)
-up_to-distinct last [] d = tt
-up_to-distinct last (x ∷ items) d = rest-distinct (eqb x last) x (up_to last items) items (up_to-within last items) d.0 (up_to-distinct last items d.1)
-
-cut-cases : (P : List ℕ → Type 0) (decisions order : List ℕ) → P [] → ((last : ℕ) → P (up_to last decisions)) → P (cut_after decisions order)
-cut-cases P decisions [] none some = none
-cut-cases P decisions (x ∷ []) none some = none
-cut-cases P decisions (x ∷ y ∷ order) none some = some y
-
-pub cut-within : (decisions order : List ℕ) → IsWithin (cut_after decisions order) decisions
-cut-within decisions order = cut-cases (λ set. IsWithin set decisions) decisions order (λ v m. absurd (none v m)) (λ last. up_to-within last decisions)
-
-pub cut-distinct : (decisions order : List ℕ) → IsDistinct decisions → IsDistinct (cut_after decisions order)
-cut-distinct decisions order d = cut-cases IsDistinct decisions order tt (λ last. up_to-distinct last decisions d)
 
 pub within-below : (n : ℕ) (decisions set : List ℕ) → All (λ v. v < n) decisions → IsWithin set decisions → All (λ v. v < n) set
 within-below n decisions set below within = λ k d lt. All-contains (λ v. v < n) decisions (get_or set k d) below (within (get_or set k d) (Contains-get_or set k d lt))
@@ -299,29 +264,18 @@ cut-many decisions trimmed many =
 
 -- ---- a decision more
 
-pub range-below : (n x : ℕ) → Contains (range_with_len 0 n) x → x < n
-range-below n x m =
-    let size = length-range_with_len 0 n in
-    let place : m.0 < length (range_with_len 0 n) = m.1 in
-    let within : m.0 < n = omega arith in
-    let value : get_or (range_with_len 0 n) m.0 x ≡ 0 + m.0 = get_or-range_with_len 0 n m.0 x within in
-    let same : x ≡ 0 + m.0 = sym m.2 ∙ value in
-    omega arith
-
-pub search-decides : (t : Trying) (decisions : List ℕ) (n v : ℕ) → IsSearch t decisions n → v < t.problem.variables → ¬ Contains decisions v → (tried : List ℕ) → IsSearch (record t { tried = tried }) (decisions ++ v ∷ []) n
-search-decides t decisions n v is below new tried = record {
-  counted = is.counted;
+pub search-decides : (t : Trying) (decisions : List ℕ) (v : ℕ) → IsSearch t decisions → v < t.problem.variables → ¬ Contains decisions v → (tried : List ℕ) → IsSearch (record t { tried = tried }) (decisions ++ v ∷ [])
+search-decides t decisions v is below new tried = record {
   allowed = is.allowed;
   distinct = distinct-push decisions v is.distinct new;
   below = All-push (λ x. x < t.problem.variables) decisions v is.below below;
 }
 
 -- a clause learned, and the decisions cut
-pub search-learns : (t : Trying) (decisions : List ℕ) (n : ℕ) → IsSearch t decisions n → length t.learned < t.problem.allowance → (clause : List Lit) (order tried : List ℕ)
-    → IsSearch (record t { learned = t.learned ++ clause ∷ []; tried = tried }) (cut_after decisions order) (n + 1)
-search-learns t decisions n is allowed clause order tried = record {
-  counted = (let longer : length (t.learned ++ clause ∷ []) ≡ length t.learned + 1 = length_push t.learned clause in let count = is.counted in omega arith);
-  allowed = (let count = is.counted in omega arith);
+pub search-learns : (t : Trying) (decisions : List ℕ) → IsSearch t decisions → length t.learned < t.problem.allowance → (clause : List Lit) (order tried : List ℕ)
+    → IsSearch (record t { learned = t.learned ++ clause ∷ []; tried = tried }) (cut_after decisions order)
+search-learns t decisions is allowed clause order tried = record {
+  allowed = (let longer : length (t.learned ++ clause ∷ []) ≡ length t.learned + 1 = length_push t.learned clause in omega arith);
   distinct = cut-distinct decisions order is.distinct;
   below = within-below t.problem.variables decisions (cut_after decisions order) is.below (cut-within decisions order);
 }

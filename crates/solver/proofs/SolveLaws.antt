@@ -13,12 +13,13 @@ use Rattle.clauses.proofs.CauseLaws.{reached-members, reached-below, reached-all
 use Rattle.clauses.proofs.DerivationLaws.{unsat-derivation, unsat-lines, derivation-unsatisfiable}
 use Rattle.clauses.proofs.EnoughLaws.{answers-in_count}
 use Rattle.clauses.proofs.StandingLaws.{reached-good}
-use Rattle.clauses.proofs.SatLaws.{sat-satisfies, clauses_with-below}
+use Rattle.clauses.proofs.KeyRoots.{clauses_with-below}
+use Rattle.clauses.proofs.SatLaws.{sat-satisfies}
 use Rattle.solver.specs.declared.answer.Answer.{Answer}
 use Rattle.solver.specs.declared.answer.Answer.TheVariants as answer
 use Rattle.solver.specs.Answers.{meaning, EndsWithLearned, IsRight}
 use Rattle.solver.specs.declared.search.Ending.{Ending}
-use Rattle.solver.specs.Searching.{Searching, standing, turn_of, IsShown, IsTurn, ended, Begins}
+use Rattle.solver.specs.inside.Searching.{Searching, standing, turn_of, IsShown, IsTurn, ended, Begins}
 use Rattle.solver.specs.Stopping.{Rises}
 
 -- with so many turns left, the search from here on has the answer of the whole

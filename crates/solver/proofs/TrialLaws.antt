@@ -1,48 +1,27 @@
 -- Variables that are tried as false: what clashes with more of them, and with those that are false already.
-use Rattle.std.proofs.Common.{◌≡◌, ◌∙◌, refl, sym, ap, subst, ⊎_elim, ℕ, ◌+◌, ◌<◌, ◌≤◌, Bool, true, false, cond, not, List, [], ◌∷◌, ◌++◌, length, map, take, drop, get_or, All, arith}
-use Rattle.std.specs.Prelude.{◌-◌, Contains, nat_lt, Some, None}
-use Rattle.std.specs.List.{range_with_len}
-use Rattle.std.proofs.lemmas.Bool.{false≢true, true≢false, cases_Bool, lt-ltb, le-ltb}
-use Rattle.std.proofs.lemmas.List.{take_more, take-append-drop, drop-append-le, length_push, length-map, length-drop}
-use Rattle.std.proofs.lemmas.List.FromFn.{length-range_with_len}
-use Rattle.std.proofs.lemmas.List.Elements.{filter-append, All-cons, All-head, All-tail, All-push, Contains-append_left, Contains-append_right, Contains-append_cases, Contains-push, Contains-push_cases}
-use Rattle.pref_sets.specs.Preferred.{IsDistinct, IsWithin}
+use Rattle.std.proofs.Common.{◌≡◌, ◌∙◌, refl, sym, ap, subst, ⊎_elim, ℕ, ◌+◌, ◌<◌, ◌≤◌, Bool, true, false, cond, List, [], ◌∷◌, ◌++◌, length, map, take, drop, get_or, All, append_assoc, arith}
+use Rattle.std.specs.Prelude.{Contains, nat_lt, None}
+use Rattle.std.proofs.lemmas.Bool.{false≢true, lt-ltb, le-ltb}
+use Rattle.std.proofs.lemmas.List.{take_more, take-append-drop, take-append-le, drop-append-le, length_push, map_push}
+use Rattle.std.proofs.lemmas.List.Elements.{filter-append, All-push, Contains-append_left, Contains-append_right, Contains-append_cases}
+use Rattle.lists.specs.Distinct.{IsDistinct}
+use Rattle.lists.proofs.Distinct.{distinct-push}
+use Rattle.lists.proofs.Members.{none, first, first_or_later, from_map, to_map, from_filter, to_filter}
+use Rattle.pref_sets.specs.Preferred.{IsWithin}
 use Rattle.clauses.specs.declared.literal.Lit.{Lit}
-use Rattle.clauses.specs.Clause.{negation, positive_of, negative_of, unit_of}
+use Rattle.clauses.specs.Clause.{negation, negative_of, unit_of}
 use Rattle.clauses.specs.Closure.{closure, clash, IsClosed}
 use Rattle.clauses.specs.Problem.{ClauseProblem}
-use Rattle.lists.proofs.Distinct.{distinct-push}
-use Rattle.lists.proofs.Members.{none, first, later, first_or_later, from_map, to_map, from_filter, to_filter}
 use Rattle.clauses.proofs.TrimmedLaws.{clash-from_refuted, refuted-from_clash}
-use Rattle.clauses.proofs.Counting.{fails, fails-most, fails-less}
-use Rattle.clauses.proofs.EnoughLaws.{among, among-from, from_among}
-use Rattle.clauses.proofs.SatLaws.{in_range}
-use Rattle.clauses.proofs.LeastLaws.{closure-closed, closure-least}
-use Rattle.propagation.specs.Propagation.{Propagation, all_of, value_of}
-use Rattle.propagation.proofs.ValueLaws.{one_sign, both-clash, value-true, value-false, value-none}
-use Rattle.solver.specs.TestLaws.{false-there, more-closed, more-clash, same-transitive}
-use Rattle.solver.specs.Trials.{Trying, with_false, variables_in, Clashes, SameButTried, IsTrial, tried_of}
-
--- the literal of a unit clause is in the closure
-pub unit-closed : (clauses : List (List Lit)) (l : Lit) → Contains clauses (unit_of l) → Contains (closure clauses) l
-unit-closed clauses l m =
-    closure-closed clauses (unit_of l) l m (first l []) (λ other inside apart.
-    ⊎_elim (λ (e : l ≡ other). absurd (apart (sym e))) (λ (no : Contains [] other). absurd (none other no)) (first_or_later l [] other inside))
+use Rattle.clauses.proofs.LeastLaws.{closure-closed, closure-least, unit-closed}
+use Rattle.propagation.specs.Propagation.{Propagation, all_of, propagated, value_of}
+use Rattle.propagation.specs.Room.{HasRoom, IsMadeTrue}
+use Rattle.propagation.proofs.RoomLaws.{new-variable, room-for}
+use Rattle.propagation.proofs.ValueLaws.{one_sign}
+use Rattle.solver.specs.inside.TestLaws.{more-closed, more-clash, same-transitive}
+use Rattle.solver.specs.inside.Trials.{Trying, with_false, variables_in, Clashes, SameButTried, IsTrial, tried_of}
 
 module _ (at : Trying) where
-  pub tried-closed : (variables : List ℕ) (v : ℕ) → Contains variables v → Contains (closure (with_false at variables)) (negative_of v)
-  tried-closed variables v m = unit-closed (with_false at variables) (negative_of v) (false-there at variables v m)
-
-  within-push : (a : List ℕ) (v : ℕ) → IsWithin a (a ++ v ∷ [])
-  within-push a v x m = Contains-append_left a (v ∷ []) x m
-
-  -- a variable that is true can't be tried
-  pub true-clash : (a : List ℕ) (v : ℕ) → Contains (closure (with_false at a)) (positive_of v) → clash (with_false at (a ++ v ∷ [])) ≡ true
-  true-clash a v m =
-      both-clash (with_false at (a ++ v ∷ [])) (positive_of v)
-      (more-closed at a (a ++ v ∷ []) (within-push a v) (positive_of v) m)
-      (tried-closed (a ++ v ∷ []) v (Contains-push a v))
-
   -- where all of a set is false already, and a part of it is tried and doesn't clash, the set doesn't
   module _ (tried set : List ℕ) (within : IsWithin tried set) (all_false : (v : ℕ) → Contains set v → Contains (closure (with_false at tried)) (negative_of v)) where
     closed_too : IsClosed (with_false at set) (Contains (closure (with_false at tried)))
@@ -69,72 +48,23 @@ module _ (at : Trying) where
     pub same-closed : (l : Lit) → Contains (closure (with_false at set)) l → Contains (closure (with_false at tried)) l
     same-closed = closure-least (with_false at set) (Contains (closure (with_false at tried))) closed_too
 
--- ---- what the value of a variable says of trying it
-
-module _ (at : Trying) (v : ℕ) where
-  abbrev tried_clauses : List (List Lit)
-  tried_clauses = with_false at at.tried
-
-  pub none-new : value_of tried_clauses v ≡ None → ¬ Contains at.tried v
-  none-new e m = ((value-none tried_clauses v).0 e).1 (tried-closed at at.tried v m)
-
-  pub some-false : (b : Bool) → clash tried_clauses ≡ false → value_of tried_clauses v ≡ Some b → not b ≡ true → Contains (closure tried_clauses) (negative_of v)
-  some-false true calm e n = absurd (false≢true n)
-  some-false false calm e n = (value-false tried_clauses v calm).0 e
-
-  pub some-clash : (b : Bool) → value_of tried_clauses v ≡ Some b → not b ≡ false → clash (with_false at (at.tried ++ v ∷ [])) ≡ true
-  some-clash true e n = true-clash at at.tried v ((value-true tried_clauses v).0 e)
-  some-clash false e n = absurd (true≢false n)
-
-  pub decided-closed : (before : Trying) → at ≡ record before { tried = before.tried ++ v ∷ [] } → Contains (closure tried_clauses) (negative_of v)
-  decided-closed before e = tried-closed at at.tried v (subst (λ (s : Trying). Contains s.tried v) (sym e) (Contains-push before.tried v))
-
--- ---- there is room for every variable
-
-module _ (n : ℕ) where
-  abbrev left : List ℕ → ℕ
-  left xs = fails (among xs) (range_with_len 0 n)
-
-  not_among : (xs : List ℕ) (x : ℕ) → ¬ Contains xs x → among xs x ≡ false
-  not_among xs x f = ⊎_elim (λ (t : among xs x ≡ true). absurd (f (from_among xs x t))) (λ (e : among xs x ≡ false). e) (cases_Bool (among xs x))
-
-  distinct-left : (xs : List ℕ) → IsDistinct xs → All (λ x. x < n) xs → length xs + left xs ≤ n
-  distinct-left [] d below = let size = length-range_with_len 0 n in let most = fails-most (among []) (range_with_len 0 n) in omega arith
-  distinct-left (x ∷ xs) d below =
-      let less : left (x ∷ xs) < left xs =
-      fails-less (among xs) (among (x ∷ xs))
-      (λ y h. among-from (x ∷ xs) y (later x xs y (from_among xs y h)))
-      (range_with_len 0 n) x (in_range n x (All-head (λ y. y < n) x xs below)) (not_among xs x d.0) (among-from (x ∷ xs) x (first x xs)) in
-      let rest = distinct-left xs d.1 (All-tail (λ y. y < n) x xs below) in
-      omega arith
-
-  -- distinct numbers below n are at most n
-  pub distinct-few : (xs : List ℕ) → IsDistinct xs → All (λ x. x < n) xs → length xs ≤ n
-  distinct-few xs d below = let few = distinct-left xs d below in omega arith
-
 -- ---- a variable more
 
 tried-negative : (variables : List ℕ) → map (λ (l : Lit). l.var) (map negative_of variables) ≡ variables
 tried-negative [] = refl
 tried-negative (x ∷ xs) = ap (λ rest. x ∷ rest) (tried-negative xs)
 
-map-push : {X Y : Type 0} (f : X → Y) (xs : List X) (x : X) → map f (xs ++ x ∷ []) ≡ map f xs ++ f x ∷ []
-map-push f [] x = refl
-map-push f (y ∷ ys) x = ap (λ rest. f y ∷ rest) (map-push f ys x)
-
 module _ (problem : ClauseProblem) (at : Propagation) (fixed : ℕ) (is : IsTrial problem at fixed) where
   abbrev tried : List ℕ
   tried = tried_of at fixed
 
+  pub has-room : HasRoom at
+  has-room = (fixed, is.few, is.distinct)
+
   pub few-assumed : (v : ℕ) → v < problem.variables → ¬ Contains tried v → length at.assumed < at.problem.variables + 4096
   few-assumed v below new =
-      let count = distinct-few problem.variables (v ∷ tried) (new, is.distinct) (All-cons (λ x. x < problem.variables) v tried below is.below) in
-      let drops : length tried ≡ length at.assumed - fixed = length-map (drop fixed at.assumed) (λ (l : Lit). l.var) ∙ length-drop fixed at.assumed in
-      let few = is.few in
-      let within = is.within in
       let same : at.problem.variables ≡ problem.variables = ap (λ (p : ClauseProblem). p.variables) is.same_problem in
-      let suc_count : length (v ∷ tried) ≡ length tried + 1 = omega arith in
-      omega arith
+      room-for at fixed v is.few is.distinct (subst (λ n. All (λ x. x < n) tried) (sym same) is.below) (omega arith) new
 
   module _ (v : ℕ) (below : v < problem.variables) (new : ¬ Contains tried v) where
     abbrev next : Propagation
@@ -144,7 +74,7 @@ module _ (problem : ClauseProblem) (at : Propagation) (fixed : ℕ) (is : IsTria
     drops-push = drop-append-le fixed at.assumed (negative_of v ∷ []) is.within
 
     pub tried-push : tried_of next fixed ≡ tried ++ v ∷ []
-    tried-push = ap (map (λ (l : Lit). l.var)) drops-push ∙ map-push (λ (l : Lit). l.var) (drop fixed at.assumed) (negative_of v)
+    tried-push = ap (map (λ (l : Lit). l.var)) drops-push ∙ map_push (λ (l : Lit). l.var) (drop fixed at.assumed) (negative_of v)
 
     pub trial-push : IsTrial problem next fixed
     trial-push = record {
@@ -152,10 +82,59 @@ module _ (problem : ClauseProblem) (at : Propagation) (fixed : ℕ) (is : IsTria
       lawful = is.lawful;
       within = (let longer = length_push at.assumed (negative_of v) in let w = is.within in omega arith);
       few = is.few;
-      negative = drops-push ∙ ap (λ xs. xs ++ negative_of v ∷ []) is.negative ∙ sym (map-push negative_of tried v) ∙ ap (map negative_of) (sym tried-push);
+      negative = drops-push ∙ ap (λ xs. xs ++ negative_of v ∷ []) is.negative ∙ sym (map_push negative_of tried v) ∙ ap (map negative_of) (sym tried-push);
       distinct = subst IsDistinct (sym tried-push) (distinct-push tried v is.distinct new);
       below = subst (All (λ x. x < problem.variables)) (sym tried-push) (All-push (λ x. x < problem.variables) tried v is.below below);
     }
+
+-- ---- a variable that is made false
+
+-- what a `Trial` shows
+abbrev pub shown_by : ClauseProblem → Propagation → ℕ → Trying
+shown_by problem at fixed = record { problem = problem; learned = at.learned; fixed = take fixed at.assumed; tried = tried_of at fixed }
+
+-- its clauses are those that are propagated
+pub shown-propagated : (problem : ClauseProblem) (at : Propagation) (fixed : ℕ) → IsTrial problem at fixed → propagated at ≡ with_false (shown_by problem at fixed) (tried_of at fixed)
+shown-propagated problem at fixed is =
+    ap (λ (p : ClauseProblem). all_of p.clauses at.learned at.assumed) is.same_problem
+    ∙ ap (all_of problem.clauses at.learned) (sym (take-append-drop fixed at.assumed) ∙ ap (λ rest. take fixed at.assumed ++ rest) is.negative)
+
+-- one variable more
+pub with_false-push : (at : Trying) (set : List ℕ) (v : ℕ) → with_false at (set ++ v ∷ []) ≡ with_false at set ++ unit_of (negative_of v) ∷ []
+with_false-push at set v =
+    ap (λ ls. all_of at.problem.clauses at.learned (at.fixed ++ ls)) (map_push negative_of set v)
+    ∙ ap (all_of at.problem.clauses at.learned) (sym (append_assoc at.fixed (map negative_of set) (negative_of v ∷ [])))
+    ∙ ap (λ units. (at.problem.clauses ++ at.learned) ++ units) (map_push unit_of (at.fixed ++ map negative_of set) (negative_of v))
+    ∙ sym (append_assoc (at.problem.clauses ++ at.learned) (map unit_of (at.fixed ++ map negative_of set)) (unit_of (negative_of v) ∷ []))
+
+module _ (problem : ClauseProblem) (fixed : ℕ) (old new : Propagation) (is : IsTrial problem old fixed) (v : ℕ) (below : v < problem.variables) (made : IsMadeTrue old (negative_of v) new) where
+  abbrev Pushed : Type 0
+  Pushed = (value_of (propagated old) v ≡ None) × (new ≡ record old { assumed = old.assumed ++ negative_of v ∷ [] })
+
+  by_made : (P : Propagation → Type 0) → P old → (¬ Contains (tried_of old fixed) v → P (record old { assumed = old.assumed ++ negative_of v ∷ [] })) → P new
+  by_made P stays pushed =
+      ⊎_elim
+      (λ (e : new ≡ old). subst P (sym e) stays)
+      (λ (o : Pushed). subst P (sym o.1) (pushed (new-variable old fixed v o.0)))
+      made
+
+  pub made-trial : IsTrial problem new fixed
+  made-trial = by_made (λ at. IsTrial problem at fixed) is (λ fresh. trial-push problem old fixed is v below fresh)
+
+  pub made-same : SameButTried (shown_by problem old fixed) (shown_by problem new fixed)
+  made-same =
+      by_made (λ at. SameButTried (shown_by problem old fixed) (shown_by problem at fixed)) (refl, refl, refl)
+      (λ fresh. (refl, refl, take-append-le fixed old.assumed (negative_of v ∷ []) is.within))
+
+  pub made-within : IsWithin (tried_of new fixed) (tried_of old fixed ++ v ∷ [])
+  made-within =
+      by_made (λ at. IsWithin (tried_of at fixed) (tried_of old fixed ++ v ∷ [])) (λ x m. Contains-append_left (tried_of old fixed) (v ∷ []) x m)
+      (λ fresh x m. subst (λ xs. Contains xs x) (tried-push problem old fixed is v below fresh) m)
+
+  pub made-more : IsWithin (tried_of old fixed) (tried_of new fixed)
+  made-more =
+      by_made (λ at. IsWithin (tried_of old fixed) (tried_of at fixed)) (λ x m. m)
+      (λ fresh x m. subst (λ xs. Contains xs x) (sym (tried-push problem old fixed is v below fresh)) (Contains-append_left (tried_of old fixed) (v ∷ []) x m))
 
 -- ---- which numbers are variables
 
@@ -192,18 +171,18 @@ pub record IsTried (start at : Trying) (set : List ℕ) : Type 0 where
   pub same : SameButTried start at
   pub within : IsWithin at.tried (variables_in start.problem set)
   pub negative : (v : ℕ) → Contains (variables_in start.problem set) v → Contains (closure (with_false at at.tried)) (negative_of v)
-  pub calm : clash (with_false at at.tried) ≡ false
+  pub no_clash : clash (with_false at at.tried) ≡ false
 
 module _ (start : Trying) where
   abbrev variables : List ℕ → List ℕ
   variables set = variables_in start.problem set
 
   pub tried-start : (at : Trying) → at ≡ record start { tried = [] } → clash (with_false at at.tried) ≡ false → IsTried start at []
-  tried-start at e calm = record {
+  tried-start at e no_clash = record {
     same = (ap (λ (s : Trying). s.problem) e, ap (λ (s : Trying). s.learned) e, ap (λ (s : Trying). s.fixed) e);
     within = (λ v m. absurd (none v (subst (λ (s : Trying). Contains s.tried v) e m)));
     negative = (λ v m. absurd (none v m));
-    calm = calm;
+    no_clash = no_clash;
   }
 
   variables-push : (set : List ℕ) (x : ℕ) → variables (set ++ x ∷ []) ≡ variables set ++ variables (x ∷ [])
@@ -216,7 +195,7 @@ module _ (start : Trying) where
     pub tried-next : SameButTried old new → IsWithin new.tried (old.tried ++ variables_in old.problem (x ∷ [])) → IsWithin old.tried new.tried
         → ((v : ℕ) → Contains (variables_in old.problem (x ∷ [])) v → Contains (closure (with_false new new.tried)) (negative_of v))
         → clash (with_false new new.tried) ≡ false → IsTried start new (set ++ x ∷ [])
-    tried-next same within more negative calm = record {
+    tried-next same within more negative no_clash = record {
       same = same-transitive start old new before.same same;
       within = (λ v m.
           subst (λ vs. Contains vs v) (sym (variables-push set x))
@@ -231,7 +210,7 @@ module _ (start : Trying) where
           (more-closed old old.tried new.tried more (negative_of v) (before.negative v o)))
           (λ (n : Contains (variables (x ∷ [])) v). negative v (subst (λ vs. Contains vs v) (sym here) n))
           (Contains-append_cases (variables set) (variables (x ∷ [])) v (subst (λ vs. Contains vs v) (variables-push set x) m)));
-      calm = calm;
+      no_clash = no_clash;
     }
 
     -- where one more clashes, a set that has them all does
@@ -251,22 +230,22 @@ module _ (start : Trying) where
         e)
 
   -- and where none does, the whole set doesn't
-  pub tried-calm : (at : Trying) (set : List ℕ) → IsTried start at set → Clashes start set → ⊥
-  tried-calm at set is c =
+  pub tried-no_clash : (at : Trying) (set : List ℕ) → IsTried start at set → Clashes start set → ⊥
+  tried-no_clash at set is c =
       let clauses = with_false at (variables set) in
       let clashing : clash clauses ≡ true = ap clash (with_false-same start at is.same (variables set)) ∙ c in
       let refuted = refuted-from_clash clauses clashing in
-      calm_refuted refuted.0 refuted.1 (λ l m. same-closed at at.tried (variables set) is.within is.negative (negation l) (refuted.2 l m))
+      no_clash_refuted refuted.0 refuted.1 (λ l m. same-closed at at.tried (variables set) is.within is.negative (negation l) (refuted.2 l m))
     where
-      calm_refuted : (clause : List Lit) → Contains (with_false at (variables set)) clause → ((l : Lit) → Contains clause l → Contains (closure (with_false at at.tried)) (negation l)) → ⊥
-      calm_refuted clause m refuted =
+      no_clash_refuted : (clause : List Lit) → Contains (with_false at (variables set)) clause → ((l : Lit) → Contains clause l → Contains (closure (with_false at at.tried)) (negation l)) → ⊥
+      no_clash_refuted clause m refuted =
           ⊎_elim
           (λ (old : Contains (at.problem.clauses ++ at.learned) clause).
-          false≢true (sym is.calm ∙ clash-from_refuted (with_false at at.tried) clause (Contains-append_left (at.problem.clauses ++ at.learned) (map unit_of (at.fixed ++ map negative_of at.tried)) clause old) refuted))
+          false≢true (sym is.no_clash ∙ clash-from_refuted (with_false at at.tried) clause (Contains-append_left (at.problem.clauses ++ at.learned) (map unit_of (at.fixed ++ map negative_of at.tried)) clause old) refuted))
           (λ (unit : Contains (map unit_of (at.fixed ++ map negative_of (variables set))) clause).
           let of = from_map unit_of (at.fixed ++ map negative_of (variables set)) clause unit in
           let negated = refuted of.0 (subst (λ c. Contains c of.0) of.2 (first of.0 [])) in
-          one_sign (with_false at at.tried) of.0 is.calm
+          one_sign (with_false at at.tried) of.0 is.no_clash
           (⊎_elim
           (λ (stays : Contains at.fixed of.0).
           unit-closed (with_false at at.tried) of.0

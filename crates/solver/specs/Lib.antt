@@ -1,5 +1,3 @@
 pub mod Answers
-pub mod Searching
 pub mod Stopping
-pub mod TestLaws
-pub mod Trials
+pub mod inside

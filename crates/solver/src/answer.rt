@@ -1,69 +1,10 @@
 //! What a search answers.
-ghost use Rattle.std.specs.Prelude.{◌≡◌, ◌<◌, ◌==◌, [], ◌∷◌, ◌++◌, length, slice_get, Some, OnOk, OnErr};
-
-use clauses::Clauses;
-use std::alloc::{AllocError, AllocFailed, Global};
-use std::marker::Model;
+use clauses::Derivation;
+use lists::Row;
+use std::alloc::{AllocError, AllocFailed};
 
 /// A value for each variable, by its number.
-#[derive(Drop)]
-pub struct Assignment {
-    items: Vec<bool>,
-}
-
-impl Model for Assignment {
-    ghost use Rattle.std.specs.Prelude.{Bool, List};
-
-    ghost Value = { List Bool };
-
-    ghost view = { λ a. a.items.items };
-}
-
-impl Assignment {
-    pub fn new(alloc: Global) -> Assignment
-        ensures { result ≡ [] }
-    {
-        Assignment {
-            items: Vec::new(alloc),
-        }
-    }
-
-    pub fn as_slice(&self) -> &[bool]
-        ensures { result.now ≡ self.now }
-    {
-        self.items.as_slice()
-    }
-
-    pub fn len(&self) -> usize
-        ensures { result ≡ length self.now }
-    {
-        self.items.len()
-    }
-
-    pub fn is_empty(&self) -> bool
-        ensures { result ≡ (length self.now == 0) }
-    {
-        self.items.is_empty()
-    }
-
-    pub fn get(&self, i: usize) -> &bool
-        requires { i < length self.now }
-        ensures { slice_get self.now i ≡ Some result.now }
-    {
-        &self.items[i]
-    }
-
-    pub fn push(&mut self, item: bool) -> Result<(), AllocError>
-        ensures ok { OnOk result (self.new ≡ self.old ++ item ∷ []) }
-        ensures err { OnErr result (self.new ≡ self.old) }
-    {
-        self.items.push(item)?;
-        Ok(())
-    }
-}
-
-/// The learned clauses in order, and then the empty clause.
-pub type Derivation = Clauses;
+pub type Assignment = Row<bool>;
 
 /// How a search ends.
 #[derive(Drop)]

@@ -10,7 +10,7 @@ mod solving;
 mod stop;
 mod trial;
 
-pub use answer::{Answer, Assignment, Derivation, SolveError};
+pub use answer::{Answer, Assignment, SolveError};
 pub use solving::solve;
 pub use stop::{NoStop, Stop};
 

@@ -1,12 +1,13 @@
 //! The turns of a search.
 ghost use Rattle.std.specs.Prelude.{◌≡◌, ◌≢◌, ◌<◌, ◌≤◌, [], ◌∷◌, ◌++◌, All, Contains, IfOk, IfSome, IsFalse, IsTrue, List, ℕ, OnErr, OnOk, length, map, not, reverse, Some, None};
-ghost use Rattle.pref_sets.specs.Preferred.{IsDistinct, IsWithin};
+ghost use Rattle.lists.specs.Distinct.{IsDistinct};
+ghost use Rattle.pref_sets.specs.Preferred.{IsWithin};
 ghost use Rattle.clauses.specs.Closure.{clash, closure};
 ghost use Rattle.clauses.specs.Problem.{IsProblem};
 ghost use Rattle.clauses.specs.Search.{cut_after, open_variables, some_true, values_of};
 ghost use Rattle.solver.specs.Answers.{meaning};
-ghost use Rattle.solver.specs.Searching.{Begins, IsShown, IsTurn, all_under, ended};
-ghost use Rattle.solver.specs.Trials.{with_false};
+ghost use Rattle.solver.specs.inside.Searching.{Begins, IsShown, IsTurn, all_under, ended};
+ghost use Rattle.solver.specs.inside.Trials.{with_false};
 
 use crate::answer::{Answer, Assignment};
 use crate::trial::Trial;
@@ -27,21 +28,20 @@ pub(crate) enum Ending {
 /// A search between two turns.
 #[derive(Drop)]
 pub(crate) struct Search<'a> {
+    /// What is propagated.
     trial: Trial<'a>,
     /// The variables that are decided false, in order. The trial has them up to the first that clashes.
     decisions: Vec<u32>,
-    /// How many clauses are learned.
-    learned: u64,
 }
 
 impl<'a> Model for Search<'a> {
-    ghost use Rattle.solver.specs.Searching.{IsSearch, Searching};
+    ghost use Rattle.solver.specs.inside.Searching.{IsSearch, Searching};
 
     ghost Value = { Searching };
 
     ghost view = { λ a. record { trial = a.trial; decisions = a.decisions.items } };
 
-    ghost invariant = { λ a. IsSearch a.trial a.decisions.items a.learned };
+    ghost invariant = { λ a. IsSearch a.trial a.decisions.items };
 }
 
 impl<'a> Search<'a> {
@@ -59,11 +59,11 @@ impl<'a> Search<'a> {
             Some(trial) => Ok(Some(Search {
                 trial,
                 decisions: Vec::new(alloc),
-                learned: 0,
             })),
         }
     }
 
+    /// Whether the turn that is due is one with a clash.
     pub fn clashes(&self) -> bool
         requires { IsShown self.now }
         ensures { result ≡ clash (all_under self.now) }
@@ -74,7 +74,7 @@ impl<'a> Search<'a> {
     /// The lowest variable without a value.
     fn lowest_open(&self) -> Option<u32>
         requires shown { IsShown self.now }
-        requires calm { IsFalse (clash (all_under self.now)) }
+        requires no_clash { IsFalse (clash (all_under self.now)) }
         ensures none { result ≡ None → open_variables self.now.trial.problem.variables (closure (all_under self.now)) ≡ [] }
         ensures some { IfSome result (λ lowest. (others : List ℕ) × (open_variables self.now.trial.problem.variables (closure (all_under self.now)) ≡ lowest ∷ others)) }
     {
@@ -89,7 +89,7 @@ impl<'a> Search<'a> {
     /// A turn without a clash: the lowest variable without a value is decided false.
     pub fn turn_at_rest(&mut self) -> Result<Option<Ending>, AllocError>
         requires shown { IsShown self.old }
-        requires calm { IsFalse (clash (all_under self.old)) }
+        requires no_clash { IsFalse (clash (all_under self.old)) }
         ensures { IfOk result (IsTurn self.old self.new) }
     {
         match self.lowest_open() {
@@ -101,9 +101,10 @@ impl<'a> Search<'a> {
         }
     }
 
+    /// Decides the variable false.
     fn decide(&mut self, variable: u32) -> Result<(), AllocError>
         requires shown { IsShown self.old }
-        requires calm { IsFalse (clash (all_under self.old)) }
+        requires no_clash { IsFalse (clash (all_under self.old)) }
         requires variable { variable < self.old.trial.problem.variables }
         requires new { ¬ Contains self.old.decisions variable }
         ensures trial { OnOk result (self.new.trial ≡ record self.old.trial { tried = self.old.decisions ++ variable ∷ [] }) }
@@ -123,7 +124,7 @@ impl<'a> Search<'a> {
         if self.decisions.is_empty() {
             return Ok(Some(Ending::Unsat));
         }
-        if self.learned == self.trial.problem().allowance {
+        if self.trial.learned().len() as u64 == self.trial.problem().allowance {
             return Ok(Some(Ending::Limit));
         }
         let trimmed = trim(alloc, &mut self.trial, &self.decisions)?;
@@ -144,7 +145,6 @@ impl<'a> Search<'a> {
     {
         let clause = some_true(alloc, trimmed)?;
         self.trial.learn(clause.as_slice())?;
-        self.learned += 1;
         cut(&mut self.decisions, trimmed);
         try_all(&mut self.trial, &self.decisions);
         Ok(())
@@ -153,7 +153,7 @@ impl<'a> Search<'a> {
     /// The answer of a search that ended so.
     pub fn into_answer(self, alloc: Global, ending: Ending) -> Result<Answer, AllocError>
         requires shown { IsShown self }
-        requires calm { ending ≡ Ending.Sat → IsFalse (clash (all_under self)) }
+        requires no_clash { ending ≡ Ending.Sat → IsFalse (clash (all_under self)) }
         ensures { IfOk result (λ answer. meaning answer ≡ ended self.entry ending) }
     {
         match ending {
@@ -168,9 +168,10 @@ impl<'a> Search<'a> {
         }
     }
 
+    /// The value of each variable, at rest.
     fn values(&self, alloc: Global) -> Result<Assignment, AllocError>
         requires shown { IsShown self.now }
-        requires calm { IsFalse (clash (all_under self.now)) }
+        requires no_clash { IsFalse (clash (all_under self.now)) }
         ensures { IfOk result (λ values. values ≡ values_of self.now.trial.problem.variables (closure (all_under self.now))) }
     {
         let mut values = Assignment::new(alloc);

@@ -2,7 +2,7 @@
 ghost use Rattle.std.specs.Prelude.{◌≡◌, ◌≤◌, [], ◌∷◌, Some, IfOk, IsTrue, IsErrOf, length};
 ghost use Rattle.clauses.specs.Search.{Unsat, search_of, turn_count};
 ghost use Rattle.solver.specs.Answers.{IsRight, meaning};
-ghost use Rattle.solver.specs.Searching.{IsShown, IsTurn};
+ghost use Rattle.solver.specs.inside.Searching.{IsShown, IsTurn};
 ghost use Rattle.solver.specs.Stopping.{Rises};
 
 use crate::answer::{Answer, SolveError};
@@ -63,6 +63,7 @@ fn refuted<S: Stop>(alloc: Global, stop: &mut S) -> Result<Answer, SolveError>
     Ok(Answer::Unsat(derivation))
 }
 
+/// One turn. At a clash `stop` is asked first.
 fn turn<S: Stop>(
     alloc: Global,
     search: &mut Search<'_>,

@@ -1,57 +1,33 @@
-//! Searches over problems of six variables, worked by hand. A letter is a literal: a to f are the variables, in order,
-//! and capital letters their negations. A word is a clause.
-ghost use Rattle.std.specs.Prelude.{◌≡◌, ◌<◌, All, IfOk};
-ghost use Rattle.clauses.specs.Problem.{IsBelow};
-
+//! Searches over problems of six variables, worked by hand. A letter is a literal, a word is a clause.
 use crate::{Answer, Assignment, NoStop, Stop, solve};
-use clauses::{Clause, Clauses, Lit, Lits, Problem};
+use clauses::{Clause, Clauses, Lit, Lits, Problem, clauses_of, literal_of};
 use req_keys::Key;
 use std::alloc::{AllocError, Global};
 use std::test::Fail;
 
-fn literal_of(letter: u8) -> Lit
-    ensures { IsBelow 6 result }
-{
-    Lit {
-        var: (u32::from(letter | 0x20) + 5) % 6,
-        positive: letter >= b'a',
-    }
-}
-
+/// The letter of a literal.
 fn letter_of(literal: &Lit) -> char {
     let letters = if literal.positive { "abcdef" } else { "ABCDEF" };
     letters.chars().nth(literal.var as usize).unwrap_or('?')
 }
 
-fn clause_of(alloc: Global, word: &str) -> Result<Clause, AllocError>
-    ensures { IfOk result (All (IsBelow 6)) }
-{
-    let mut clause = Clause::new(alloc);
-    for letter in word.as_bytes() {
-        clause.push(literal_of(*letter))?;
-    }
-    Ok(clause)
-}
-
+/// The problem of the row.
 fn problem_of(alloc: Global, row: &Row) -> Result<Problem, AllocError> {
-    let mut clauses = Clauses::new(alloc);
-    for word in row.clauses {
-        clauses.push(clause_of(alloc, word)?)?;
-    }
     let mut roots = Lits::new(alloc);
     if row.roots != b"  " {
-        roots.push(literal_of(row.roots[0]))?;
-        roots.push(literal_of(row.roots[1]))?;
+        roots.push(literal_of(6, row.roots[0]))?;
+        roots.push(literal_of(6, row.roots[1]))?;
     }
     Ok(Problem {
         variables: 6,
         features: 6,
-        clauses,
+        clauses: clauses_of(alloc, 6, row.clauses)?,
         roots,
         allowance: u64::from(row.allowance),
     })
 }
 
+/// A search, and how it ends.
 #[derive(Clone, Copy)]
 struct Row {
     clauses: &'static [&'static str],
@@ -73,6 +49,7 @@ const ONE_OF_TWO: &[&str] = &["bde", "bdE"];
 /// a, c or e must be true, and a where e is.
 const THREE_NEEDED: &[&str] = &["acef", "aceF", "aEf", "aEF"];
 
+/// A row without roots.
 fn plain(clauses: &'static [&'static str], allowance: u8, answer: &'static str) -> Row {
     Row {
         clauses,
@@ -83,6 +60,7 @@ fn plain(clauses: &'static [&'static str], allowance: u8, answer: &'static str) 
     }
 }
 
+/// A row with two roots, in which nothing may be learned.
 fn rooted(
     clauses: &'static [&'static str],
     roots: &'static [u8; 2],
@@ -98,6 +76,7 @@ fn rooted(
     }
 }
 
+/// Worked by hand.
 fn rows() -> [Row; 19] {
     [
         plain(&[], 0, "000000"),
@@ -123,6 +102,7 @@ fn rows() -> [Row; 19] {
     ]
 }
 
+/// Writes a digit for each value.
 fn show_values(out: &mut String, values: &Assignment) -> Result<(), Fail> {
     for value in values.as_slice() {
         write!(out, "{}", u8::from(*value))?;
@@ -130,6 +110,7 @@ fn show_values(out: &mut String, values: &Assignment) -> Result<(), Fail> {
     Ok(())
 }
 
+/// Writes the letters of the line.
 fn show_line(out: &mut String, line: &Clause) -> Result<(), Fail> {
     for literal in line.as_slice() {
         write!(out, "{}", letter_of(literal))?;
@@ -138,6 +119,7 @@ fn show_line(out: &mut String, line: &Clause) -> Result<(), Fail> {
     Ok(())
 }
 
+/// Writes all lines.
 fn show_lines(out: &mut String, lines: &Clauses) -> Result<(), Fail> {
     for line in lines.as_slice() {
         show_line(out, line)?;
@@ -145,6 +127,7 @@ fn show_lines(out: &mut String, lines: &Clauses) -> Result<(), Fail> {
     Ok(())
 }
 
+/// How the search of the row ends, as text.
 fn shown<S: Stop>(alloc: Global, row: &Row, stop: &mut S) -> Result<String, Fail> {
     let problem = problem_of(alloc, row)?;
     let key = if row.with_roots {

@@ -5,7 +5,7 @@ ghost use Rattle.clauses.specs.Clause.{negative_of};
 ghost use Rattle.clauses.specs.Closure.{clash, closure};
 ghost use Rattle.clauses.specs.Problem.{IsBelow, IsProblem};
 ghost use Rattle.propagation.specs.Propagation.{value_of};
-ghost use Rattle.solver.specs.Trials.{Clashes, SameButTried, Starts, variables_in, with_false};
+ghost use Rattle.solver.specs.inside.Trials.{Clashes, SameButTried, Starts, variables_in, with_false};
 
 use clauses::{Clauses, Lit, Problem};
 use pref_sets::MonotoneTest;
@@ -14,10 +14,22 @@ use req_keys::Key;
 use std::alloc::{AllocError, Global};
 use std::marker::Model;
 
+/// The literal that says that the variable is false.
+fn negative_of(variable: u32) -> Lit
+    ensures { result ≡ negative_of variable }
+{
+    Lit {
+        var: variable,
+        positive: false,
+    }
+}
+
 /// A propagator whose first assumed literals stay; behind them variables are tried as false.
 #[derive(Drop)]
 pub(crate) struct Trial<'a> {
+    /// What is searched.
     problem: &'a Problem,
+    /// What is assumed and learned.
     propagator: Propagator<'a>,
     /// How many of the assumed literals stay.
     fixed: u32,
@@ -25,7 +37,7 @@ pub(crate) struct Trial<'a> {
 
 impl<'a> Model for Trial<'a> {
     ghost use Rattle.std.specs.Prelude.{take};
-    ghost use Rattle.solver.specs.Trials.{IsTrial, Trying, tried_of};
+    ghost use Rattle.solver.specs.inside.Trials.{IsTrial, Trying, tried_of};
 
     ghost Value = { Trying };
 
@@ -71,8 +83,9 @@ impl<'a> Trial<'a> {
         self.propagator.clashes()
     }
 
+    /// What the closure says of the variable.
     pub fn value(&self, variable: u32) -> Option<bool>
-        requires calm { IsFalse (clash (with_false self.now self.now.tried)) }
+        requires no_clash { IsFalse (clash (with_false self.now self.now.tried)) }
         requires variable { variable < self.now.problem.variables }
         ensures { result ≡ value_of (with_false self.now self.now.tried) variable }
     {
@@ -86,6 +99,7 @@ impl<'a> Trial<'a> {
         self.propagator.back_to(self.fixed);
     }
 
+    /// Appends the clause to the learned ones.
     pub fn learn(&mut self, clause: &[Lit]) -> Result<(), AllocError>
         requires { All (IsBelow self.old.problem.variables) clause.now }
         ensures ok { OnOk result (self.new ≡ record self.old { learned = self.old.learned ++ clause.now ∷ [] }) }
@@ -97,33 +111,27 @@ impl<'a> Trial<'a> {
 
     /// Tries another variable as false, and answers whether nothing clashes.
     pub fn decide(&mut self, variable: u32) -> bool
-        requires calm { IsFalse (clash (with_false self.old self.old.tried)) }
+        requires no_clash { IsFalse (clash (with_false self.old self.old.tried)) }
         requires variable { variable < self.old.problem.variables }
         requires new { ¬ Contains self.old.tried variable }
         ensures tried { self.new ≡ record self.old { tried = self.old.tried ++ variable ∷ [] } }
-        ensures calm { result ≡ not (clash (with_false self.new self.new.tried)) }
+        ensures no_clash { result ≡ not (clash (with_false self.new self.new.tried)) }
     {
-        self.propagator.assume(Lit {
-            var: variable,
-            positive: false,
-        })
+        self.propagator.assume(negative_of(variable))
     }
 
     /// Sees to it that the variable is false, and answers whether nothing clashes.
     fn is_false_too(&mut self, variable: u32) -> bool
-        requires calm { IsFalse (clash (with_false self.old self.old.tried)) }
+        requires no_clash { IsFalse (clash (with_false self.old self.old.tried)) }
         requires variable { variable < self.old.problem.variables }
         ensures same { SameButTried self.old self.new }
         ensures within { IsWithin self.new.tried (self.old.tried ++ variable ∷ []) }
         ensures more { IsWithin self.old.tried self.new.tried }
         ensures negative { IsTrue result → Contains (closure (with_false self.new self.new.tried)) (negative_of variable) }
-        ensures calm { IsTrue result → IsFalse (clash (with_false self.new self.new.tried)) }
+        ensures no_clash { IsTrue result → IsFalse (clash (with_false self.new self.new.tried)) }
         ensures clash { IsFalse result → IsTrue (clash (with_false self.old (self.old.tried ++ variable ∷ []))) }
     {
-        match self.value(variable) {
-            Some(value) => !value,
-            None => self.decide(variable),
-        }
+        self.propagator.make_true(negative_of(variable))
     }
 
     /// The same for any number; one that is no variable changes nothing.
@@ -133,13 +141,20 @@ impl<'a> Trial<'a> {
         ensures within { IsWithin self.new.tried (self.old.tried ++ variables_in self.old.problem (number ∷ [])) }
         ensures more { IsWithin self.old.tried self.new.tried }
         ensures negative { IsTrue result → (variable : ℕ) → Contains (variables_in self.old.problem (number ∷ [])) variable → Contains (closure (with_false self.new self.new.tried)) (negative_of variable) }
-        ensures calm { IsTrue result → IsFalse (clash (with_false self.new self.new.tried)) }
+        ensures no_clash { IsTrue result → IsFalse (clash (with_false self.new self.new.tried)) }
         ensures clash { IsFalse result → IsTrue (clash (with_false self.old (self.old.tried ++ variables_in self.old.problem (number ∷ [])))) }
     {
         if number >= self.problem().variables {
             return true;
         }
         self.is_false_too(number)
+    }
+
+    /// The learned clauses so far.
+    pub fn learned(&self) -> &Clauses
+        ensures { result.now ≡ self.now.learned }
+    {
+        self.propagator.learned()
     }
 
     /// The learned clauses, in their order.
@@ -152,7 +167,7 @@ impl<'a> Trial<'a> {
 }
 
 impl MonotoneTest for Trial<'_> {
-    ghost use Rattle.solver.specs.TestLaws.{clashes-monotone, same-reflexive, same-transitive};
+    ghost use Rattle.solver.specs.inside.TestLaws.{clashes-monotone, same-reflexive, same-transitive};
 
     ghost yes = { Clashes };
 

@@ -1,6 +1,7 @@
 use Rattle.clauses.specs.Problem.{clauses_with}
 use Rattle.clauses.specs.Search.{turn_count}
-use Rattle.clauses.proofs.SatLaws.{sat-satisfies, clauses_with-below}
+use Rattle.clauses.proofs.KeyRoots.{clauses_with-below}
+use Rattle.clauses.proofs.SatLaws.{sat-satisfies}
 use Rattle.clauses.proofs.laws.sat_is_an_assignment.Goals as goal
 
 pub returns-clause-sized : goal.returns-clause-sized

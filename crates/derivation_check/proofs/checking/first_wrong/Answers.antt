@@ -24,19 +24,19 @@ returns-then-not-branch c =
     sym
     (ap (first_wrong clauses) (split-at c.as_slice-line-items.result.now lines c.as_slice-line-items.ensures number c.loop-number-test.true c.line-item.result c.line-item.is)
     ∙ checked-wrong c.args.problem.now c.args.key.now c.loop-number.propagator (take number lines) c.loop-number.invariant c.line-item.result (drop (number + 1) lines)
-    (subst (λ line. follows (propagated c.loop-number.propagator) line ≡ false) c.as_slice.ensures (sym c.in_ok-learns.ensures.follows ∙ c.if-not-branch.true))
+    (subst (λ line. follows (propagated c.loop-number.propagator) line ≡ false) c.as_slice.ensures (sym c.in_ok-accepts.ensures.follows ∙ c.if-not-branch.true))
     ∙ ap Some (take-count c.as_slice-line-items.result.now lines c.as_slice-line-items.ensures number c.loop-number-test.true c.line-item.result c.line-item.is))
 
 pub loop-number-preserved : goal.loop-number-preserved
 loop-number-preserved c =
     let lines = c.args.lines.now in
     let number = c.loop-number.number in
-    subst (AreChecked c.args.problem.now c.args.key.now c.learns.new.propagator)
+    subst (AreChecked c.args.problem.now c.args.key.now c.accepts.new.propagator)
     (sym (take-next c.as_slice-line-items.result.now lines c.as_slice-line-items.ensures number c.loop-number-test.true c.line-item.result c.line-item.is))
-    (checked-next c.args.problem.now c.args.key.now c.loop-number.propagator (take number lines) c.loop-number.invariant c.line-item.result c.learns.new.propagator
-    (subst (λ line. follows (propagated c.loop-number.propagator) line ≡ true) c.as_slice.ensures (sym c.in_ok-learns.ensures.follows ∙ c.if-not-branch.false))
-    (subst (λ (line : List Lit). c.learns.new.propagator ≡ record c.loop-number.propagator { learned = c.loop-number.propagator.learned ++ line ∷ [] }) c.as_slice.ensures
-    (c.in_ok-learns.ensures.learned c.if-not-branch.false)))
+    (checked-next c.args.problem.now c.args.key.now c.loop-number.propagator (take number lines) c.loop-number.invariant c.line-item.result c.accepts.new.propagator
+    (subst (λ line. follows (propagated c.loop-number.propagator) line ≡ true) c.as_slice.ensures (sym c.in_ok-accepts.ensures.follows ∙ c.if-not-branch.false))
+    (subst (λ (line : List Lit). c.accepts.new.propagator ≡ record c.loop-number.propagator { learned = c.loop-number.propagator.learned ++ line ∷ [] }) c.as_slice.ensures
+    (c.in_ok-accepts.ensures.learned c.if-not-branch.false)))
 
 pub returns : goal.returns
 returns c =

@@ -4,7 +4,7 @@ use Rattle.std.proofs.lemmas.List.{take_all, take_more, take-append-drop, length
 use Rattle.clauses.specs.Problem.{ClauseProblem}
 use Rattle.propagation.specs.Propagation.{Propagation, propagated}
 use Rattle.clauses.specs.Closure.{clash}
-use Rattle.propagation.proofs.RootLaws.{AreAssumed, assumed-none, assumed-next, new-clash, next-clash, items-few, item-bounds, root-below, rooted-all, clash-from_not, calm-from_not}
+use Rattle.propagation.proofs.RootLaws.{AreAssumed, assumed-none, assumed-next, new-clash, next-clash, items-few, item-bounds, root-below, rooted-all, clash-from_not, no_clash-from_not}
 use Rattle.propagation.proofs.roots.with_roots.Goals as goal
 
 pub returns-then-clashes : goal.returns-then-clashes
@@ -30,8 +30,8 @@ get-root-requires c =
     let high = at.1 in
     omega arith
 
-pub assume-requires-clause-calm : goal.assume-requires-clause-calm
-assume-requires-clause-calm c = c.loop-position.invariant.calm
+pub assume-requires-clause-no_clash : goal.assume-requires-clause-no_clash
+assume-requires-clause-no_clash c = c.loop-position.invariant.no_clash
 
 pub assume-requires-clause-variable : goal.assume-requires-clause-variable
 assume-requires-clause-variable c =
@@ -55,7 +55,7 @@ returns-then-not-assume c =
     c.loop-position.invariant
     (subst (λ (p : ClauseProblem). slice_get p.roots (get_or c.as_slice-position-items.result.now c.loop-position.position-index 0 - 1) ≡ Some c.get-root.result.now) c.problem.view_is c.get-root.ensures)
     c.assume.ensures.assumed
-    (clash-from_not (clash (propagated c.assume.new.self)) c.assume.result c.assume.ensures.calm c.if-not-assume.true)
+    (clash-from_not (clash (propagated c.assume.new.self)) c.assume.result c.assume.ensures.no_clash c.if-not-assume.true)
     (sym (c.as_slice-position-items.ensures ∙ c.in_ok-positions.ensures)
     ∙ sym (take-append-drop (c.loop-position.position-index + 1) c.as_slice-position-items.result.now)
     ∙ ap (λ (front : List ℕ). front ++ drop (c.loop-position.position-index + 1) c.as_slice-position-items.result.now) (take_more c.as_slice-position-items.result.now c.loop-position.position-index 0 c.loop-position-test.true))
@@ -67,7 +67,7 @@ loop-position-preserved c =
     (get_or c.as_slice-position-items.result.now c.loop-position.position-index 0) c.get-root.result.now c.loop-position.invariant
     (subst (λ (p : ClauseProblem). slice_get p.roots (get_or c.as_slice-position-items.result.now c.loop-position.position-index 0 - 1) ≡ Some c.get-root.result.now) c.problem.view_is c.get-root.ensures)
     c.assume.ensures.assumed
-    (calm-from_not (clash (propagated c.assume.new.self)) c.assume.result c.assume.ensures.calm c.if-not-assume.false))
+    (no_clash-from_not (clash (propagated c.assume.new.self)) c.assume.result c.assume.ensures.no_clash c.if-not-assume.false))
 
 pub returns : goal.returns
 returns c =

@@ -1,7 +1,7 @@
 use Rattle.std.proofs.Common.{◌∙◌, ap, subst, map}
 use Rattle.std.proofs.lemmas.Bool.{both_ways}
 use Rattle.clauses.specs.Clause.{unit_of}
-use Rattle.propagation.specs.Values.{IsScan}
+use Rattle.propagation.specs.inside.Values.{IsScan}
 use Rattle.propagation.proofs.ScanLaws.{scan_all-early, scan_all-clash, scan_all-whole}
 use Rattle.propagation.proofs.scan.scan_all.Goals as goal
 

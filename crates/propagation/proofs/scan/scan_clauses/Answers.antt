@@ -1,6 +1,6 @@
 use Rattle.std.proofs.Common.{subst, ◌∷◌, []}
 use Rattle.std.proofs.lemmas.Bool.{both_ways}
-use Rattle.propagation.specs.Values.{IsScan}
+use Rattle.propagation.specs.inside.Values.{IsScan}
 use Rattle.propagation.proofs.ScanLaws.{IsScan-next, IsScan-stops}
 use Rattle.propagation.proofs.scan.scan_clauses.Goals as goal
 

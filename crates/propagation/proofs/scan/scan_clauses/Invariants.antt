@@ -1,5 +1,5 @@
 use Rattle.std.proofs.Common.{◌≡◌, take}
-use Rattle.propagation.specs.Values.{IsScan}
+use Rattle.propagation.specs.inside.Values.{IsScan}
 use Rattle.propagation.specs.declared.scan.Found.TheVariants.{Clash}
 use Rattle.propagation.proofs.scan.scan_clauses.Given as goal
 

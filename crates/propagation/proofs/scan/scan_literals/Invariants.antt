@@ -1,6 +1,6 @@
 use Rattle.std.proofs.Common.{◌≡◌, map, take}
 use Rattle.clauses.specs.Clause.{unit_of}
-use Rattle.propagation.specs.Values.{IsScan}
+use Rattle.propagation.specs.inside.Values.{IsScan}
 use Rattle.propagation.specs.declared.scan.Found.TheVariants.{Clash}
 use Rattle.propagation.proofs.scan.scan_literals.Given as goal
 

@@ -1,6 +1,6 @@
 use Rattle.std.proofs.Common.{◌≡◌, length}
 use Rattle.propagation.specs.Propagation.{all_of}
-use Rattle.propagation.specs.Values.{IsSound, open_count}
+use Rattle.propagation.specs.inside.Values.{IsSound, open_count}
 use Rattle.propagation.proofs.scan.settle.Given as goal
 
 abbrev pub invariant-loop : goal.invariant-loop

@@ -1,7 +1,7 @@
 use Rattle.std.proofs.Common.{◌≡◌, ◌∙◌, sym, length, None}
 use Rattle.std.proofs.lemmas.List.Elements.{All-contains}
 use Rattle.clauses.specs.Problem.{IsBelow}
-use Rattle.propagation.specs.Values.{value_at}
+use Rattle.propagation.specs.inside.Values.{value_at}
 use Rattle.propagation.proofs.ScanLaws.{none-from_test, visit-new}
 use Rattle.propagation.proofs.scan.visit.Goals as goal
 

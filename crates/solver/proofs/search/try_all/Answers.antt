@@ -1,7 +1,7 @@
 use Rattle.std.proofs.Common.{◌≡◌, ◌∙◌, ap, sym, subst, inr, ℕ, List, ◌++◌, get_or, take, drop}
 use Rattle.std.specs.Prelude.{Contains}
 use Rattle.std.proofs.lemmas.List.{take-append-drop}
-use Rattle.solver.specs.Trials.{Trying}
+use Rattle.solver.specs.inside.Trials.{Trying}
 use Rattle.solver.proofs.SearchLaws.{distinct-next}
 use Rattle.solver.proofs.search.try_all.Goals as goal
 

@@ -2,7 +2,7 @@ use Rattle.std.proofs.Common.{◌≡◌, ◌∙◌, sym, ap, subst, [], ◌∷�
 use Rattle.std.proofs.lemmas.Result.{IfOk-weaker}
 use Rattle.clauses.specs.Search.{Unsat, search_of}
 use Rattle.solver.specs.Answers.{IsRight, meaning}
-use Rattle.solver.specs.Searching.{Begins, IsTurn}
+use Rattle.solver.specs.inside.Searching.{Begins, IsTurn}
 use Rattle.solver.proofs.SolveLaws.{IsGoing, going-start, going-on, going-ends, shown-at_end, one-left, none-left, refuted-at_start, right-answer}
 use Rattle.solver.proofs.solving.solve.Goals as goal
 

@@ -3,7 +3,7 @@ use Rattle.std.proofs.lemmas.List.Elements.{All-push}
 use Rattle.clauses.specs.Closure.{clash}
 use Rattle.clauses.specs.Problem.{IsBelow}
 use Rattle.propagation.specs.Propagation.{all_of, propagated}
-use Rattle.propagation.specs.Values.{IsSound, Shows}
+use Rattle.propagation.specs.inside.Values.{IsSound, Shows}
 use Rattle.propagation.proofs.GrowthLaws.{more_assumed, shown-sound}
 use Rattle.propagation.proofs.propagator.Propagator.assume.Goals as goal
 
@@ -12,9 +12,9 @@ settle-self-inside-requires-clause-sound c =
     let clauses = c.self.inside.problem.now.clauses in
     let learned = c.self.inside.learned in
     let old = c.self.inside.assumed.items in
-    let calm : c.self.inside.clashing ≡ false = c.self.invariant.answered ∙ ap (λ at. clash (propagated at)) c.self.view_is ∙ c.requires.calm in
+    let no_clash : c.self.inside.clashing ≡ false = c.self.invariant.answered ∙ ap (λ at. clash (propagated at)) c.self.view_is ∙ c.requires.no_clash in
     subst (λ assumed. IsSound (all_of clauses learned assumed) c.self.inside.values) (sym (c.as_slice.ensures.value ∙ c.push_reserved.ensures.items))
-    (shown-sound (all_of clauses learned old) (all_of clauses learned (old ++ c.args.lit ∷ [])) (more_assumed clauses learned old (c.args.lit ∷ [])) (sym c.self.invariant.answered ∙ calm) c.self.inside.values (c.self.invariant.shown calm))
+    (shown-sound (all_of clauses learned old) (all_of clauses learned (old ++ c.args.lit ∷ [])) (more_assumed clauses learned old (c.args.lit ∷ [])) (sym c.self.invariant.answered ∙ no_clash) c.self.inside.values (c.self.invariant.shown no_clash))
 
 pub invariant_of-self : goal.invariant_of-self
 invariant_of-self c =
@@ -26,5 +26,5 @@ invariant_of-self c =
       sized = c.settle-self-inside.ensures.length ∙ c.self.invariant.sized;
       reserved = rw c.push_reserved.ensures.capacity c.self.invariant.reserved;
       answered = subst (λ assumed. c.settle-self-inside.result ≡ clash (all_of c.self.inside.problem.now.clauses c.self.inside.learned assumed)) shown c.settle-self-inside.ensures.clash;
-      shown = λ calm. subst (λ assumed. Shows (all_of c.self.inside.problem.now.clauses c.self.inside.learned assumed) c.settle-self-inside.new.values) shown (c.settle-self-inside.ensures.values calm);
+      shown = λ no_clash. subst (λ assumed. Shows (all_of c.self.inside.problem.now.clauses c.self.inside.learned assumed) c.settle-self-inside.new.values) shown (c.settle-self-inside.ensures.values no_clash);
     }

@@ -6,7 +6,7 @@ use Rattle.clauses.specs.Closure.{clash}
 use Rattle.clauses.specs.Problem.{IsBelow}
 use Rattle.clauses.proofs.LeastLaws.{clash-among}
 use Rattle.propagation.specs.Propagation.{all_of}
-use Rattle.propagation.specs.Values.{IsSound, Shows}
+use Rattle.propagation.specs.inside.Values.{IsSound, Shows}
 use Rattle.propagation.proofs.GrowthLaws.{more_learned, shown-sound}
 use Rattle.propagation.proofs.propagator.Propagator.learn.Goals as goal
 use Rattle.propagation.proofs.propagator.Propagator.learn.Goals.{then-not-self, else-not-self}
@@ -16,11 +16,11 @@ settle-self-inside-requires-clause-sound c =
     let clauses = c.self.inside.problem.now.clauses in
     let assumed = c.self.inside.assumed.items in
     let old = c.self.inside.learned in
-    let calm : c.self.inside.clashing ≡ false = c.if-not-self.true in
+    let no_clash : c.self.inside.clashing ≡ false = c.if-not-self.true in
     subst (λ a. IsSound (all_of clauses c.push.new.self a) c.self.inside.values) (sym c.as_slice.ensures.value)
     (subst (λ learned. IsSound (all_of clauses learned assumed) c.self.inside.values) (sym c.in_ok-push.ensures.ok)
-    (shown-sound (all_of clauses old assumed) (all_of clauses (old ++ c.in_ok-clause.clause ∷ []) assumed) (more_learned clauses old assumed (c.in_ok-clause.clause ∷ [])) (sym c.self.invariant.answered ∙ calm) c.self.inside.values
-    (c.self.invariant.shown calm)))
+    (shown-sound (all_of clauses old assumed) (all_of clauses (old ++ c.in_ok-clause.clause ∷ []) assumed) (more_learned clauses old assumed (c.in_ok-clause.clause ∷ [])) (sym c.self.invariant.answered ∙ no_clash) c.self.inside.values
+    (c.self.invariant.shown no_clash)))
 
 pub invariant_of-self-2 : goal.invariant_of-self-2
 invariant_of-self-2 c =
@@ -42,7 +42,7 @@ invariant_of-self-2 c =
             sized = w.settle-self-inside.ensures.length ∙ c.self.invariant.sized;
             reserved = c.self.invariant.reserved;
             answered = subst (λ a. w.settle-self-inside.result ≡ clash (all_of clauses c.push.new.self a)) w.as_slice.ensures.value w.settle-self-inside.ensures.clash;
-            shown = λ calm. subst (λ a. Shows (all_of clauses c.push.new.self a) w.settle-self-inside.new.values) w.as_slice.ensures.value (w.settle-self-inside.ensures.values calm);
+            shown = λ no_clash. subst (λ a. Shows (all_of clauses c.push.new.self a) w.settle-self-inside.new.values) w.as_slice.ensures.value (w.settle-self-inside.ensures.values no_clash);
           })
       | else-not-self w ↦
           let clashing : c.self.inside.clashing ≡ true = w.if-not-self.false in
@@ -57,9 +57,9 @@ invariant_of-self-2 c =
             sized = c.self.invariant.sized;
             reserved = c.self.invariant.reserved;
             answered = clashing ∙ sym more;
-            shown = λ calm. absurd (both_ways c.self.inside.clashing calm clashing);
+            shown = λ no_clash. absurd (both_ways c.self.inside.clashing no_clash clashing);
           })
     ]
 
-pub returns-clause-calm : goal.returns-clause-calm
-returns-clause-calm c = let answered = (invariant_of-self-2 c).answered in ap not answered
+pub returns-clause-no_clash : goal.returns-clause-no_clash
+returns-clause-no_clash c = let answered = (invariant_of-self-2 c).answered in ap not answered

@@ -1,7 +1,7 @@
 use Rattle.std.proofs.Common.{◌∙◌, ap}
 use Rattle.clauses.specs.Closure.{clash}
-use Rattle.solver.specs.Trials.{with_false}
-use Rattle.solver.specs.Searching.{Searching}
+use Rattle.solver.specs.inside.Trials.{with_false}
+use Rattle.solver.specs.inside.Searching.{Searching}
 use Rattle.solver.proofs.SearchLaws.{shown-clash}
 use Rattle.solver.proofs.search.Search.clashes.Goals as goal
 

@@ -1,10 +1,11 @@
-use Rattle.std.proofs.Common.{◌≡◌, ◌∙◌, ap, sym, subst, ℕ, List, All, length, reverse, [], ◌∷◌, ◌++◌, ◌+◌, ◌^◌, ◌<◌, ◌≤◌, arith}
+use Rattle.std.proofs.Common.{◌∙◌, ap, sym, subst, ℕ, List, All, length, reverse, [], ◌∷◌, ◌++◌, ◌<◌}
 use Rattle.pref_sets.specs.Preferred.{IsDistinct, IsWithin}
 use Rattle.clauses.specs.Problem.{IsBelow}
 use Rattle.clauses.specs.Search.{cut_after}
-use Rattle.solver.specs.Trials.{Trying}
-use Rattle.solver.specs.Searching.{Searching, IsSearch}
-use Rattle.solver.proofs.SearchLaws.{some_true-below, cut-within, cut-distinct, within-below, search-learns}
+use Rattle.solver.specs.inside.Trials.{Trying}
+use Rattle.solver.specs.inside.Searching.{Searching, IsSearch}
+use Rattle.clauses.proofs.Cuts.{cut-distinct, cut-within}
+use Rattle.solver.proofs.SearchLaws.{some_true-below, within-below, search-learns}
 use Rattle.solver.proofs.search.Search.learn.Goals as goal
 
 pub learn-requires : goal.learn-requires
@@ -13,14 +14,6 @@ learn-requires c =
     subst (All (IsBelow n)) (sym (c.as_slice.ensures ∙ c.in_ok-clause.ensures))
     (some_true-below n c.self.inside.decisions.items c.args.trimmed.now c.self.invariant.below
     (subst (λ (s : Searching). IsWithin c.args.trimmed.now s.decisions) (sym c.self.view_is) c.requires.part))
-
-pub overflow_add-self : goal.overflow_add-self
-overflow_add-self c =
-    let allowed : length c.self.inside.trial.learned < c.self.inside.trial.problem.allowance =
-    subst (λ (s : Searching). length s.trial.learned < s.trial.problem.allowance) (sym c.self.view_is) c.requires.allowed in
-    let few : c.self.inside.trial.problem.allowance ≤ 2 ^ 40 = subst (λ (s : Searching). s.trial.problem.allowance ≤ 2 ^ 40) (sym c.self.view_is) c.requires.lawful.few_learned in
-    let counted : c.self.inside.learned ≡ length c.self.inside.trial.learned = c.self.invariant.counted in
-    omega arith
 
 pub try_all-requires-clause-distinct : goal.try_all-requires-clause-distinct
 try_all-requires-clause-distinct c =
@@ -41,6 +34,6 @@ invariant_of-self-2 c =
     subst (λ (s : Searching). length s.trial.learned < s.trial.problem.allowance) (sym c.self.view_is) c.requires.allowed in
     let tried : List ℕ = c.try_all.new.trial.tried in
     let now = c.try_all.ensures.same ∙ ap (λ (t : Trying). record t { tried = tried }) c.in_ok-learn.ensures.ok in
-    subst (λ (t : Trying). IsSearch t c.cut.new.decisions.items (c.self.inside.learned + 1)) (sym now)
-    (subst (λ (ds : List ℕ). IsSearch (record c.self.inside.trial { learned = c.self.inside.trial.learned ++ c.as_slice.result.now ∷ []; tried = tried }) ds (c.self.inside.learned + 1)) (sym c.cut.ensures)
-    (search-learns c.self.inside.trial c.self.inside.decisions.items c.self.inside.learned c.self.invariant allowed c.as_slice.result.now (reverse c.args.trimmed.now) tried))
+    subst (λ (t : Trying). IsSearch t c.cut.new.decisions.items) (sym now)
+    (subst (λ (ds : List ℕ). IsSearch (record c.self.inside.trial { learned = c.self.inside.trial.learned ++ c.as_slice.result.now ∷ []; tried = tried }) ds) (sym c.cut.ensures)
+    (search-learns c.self.inside.trial c.self.inside.decisions.items c.self.invariant allowed c.as_slice.result.now (reverse c.args.trimmed.now) tried))

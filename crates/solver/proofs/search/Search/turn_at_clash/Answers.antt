@@ -2,12 +2,13 @@ use Rattle.std.proofs.Common.{◌≡◌, ◌∙◌, ap, sym, subst, ℕ, List, [
 use Rattle.std.specs.Prelude.{Contains, vec_len}
 use Rattle.std.proofs.lemmas.Bool.{false≢true, eq-eqb}
 use Rattle.pref_sets.specs.Trimmed.{IsTrimmed}
+use Rattle.clauses.specs.declared.literal.Lit.{Lit}
 use Rattle.clauses.specs.Closure.{clash}
 use Rattle.clauses.specs.Problem.{ClauseProblem, IsProblem}
-use Rattle.clauses.specs.Search.{GoesOn, some_true, cut_after, clashing}
-use Rattle.solver.specs.Trials.{Clashes}
-use Rattle.solver.specs.Searching.{Searching, clauses_of, all_under}
-use Rattle.solver.proofs.SearchLaws.{clashes-there, trimmed-clashing, trimmed-part, turn-learns}
+use Rattle.clauses.specs.Search.{GoesOn, some_true, cut_after, needed_decisions}
+use Rattle.solver.specs.inside.Trials.{Clashes}
+use Rattle.solver.specs.inside.Searching.{Searching, clauses_of, all_under}
+use Rattle.solver.proofs.SearchLaws.{clashes-there, trimmed-needed, trimmed-part, turn-learns}
 use Rattle.solver.proofs.search.Search.turn_at_clash.Goals as goal
 
 pub trim-requires-clause-yes : goal.trim-requires-clause-yes
@@ -30,11 +31,11 @@ returns c =
     let now : Searching = c.args.self.now in
     let decisions : List ℕ = c.self.inside.decisions.items in
     let left : List ℕ = c.as_slice.result.now in
-    let trimmed : left ≡ clashing (clauses_of now.trial ++ now.trial.learned) now.decisions =
+    let trimmed : left ≡ needed_decisions (clauses_of now.trial ++ now.trial.learned) now.decisions =
     c.as_slice.ensures
-    ∙ trimmed-clashing c.self.inside.trial decisions c.self.invariant.below c.in_ok-trimmed.trimmed
+    ∙ trimmed-needed c.self.inside.trial decisions c.self.invariant.below c.in_ok-trimmed.trimmed
     (subst (λ (items : List ℕ). IsTrimmed (Clashes c.self.inside.trial) items c.in_ok-trimmed.trimmed) c.deref.ensures.value c.in_ok-trimmed.ensures.trimmed)
-    ∙ ap (λ (s : Searching). clashing (clauses_of s.trial ++ s.trial.learned) s.decisions) c.self.view_is in
+    ∙ ap (λ (s : Searching). needed_decisions (clauses_of s.trial ++ s.trial.learned) s.decisions) c.self.view_is in
     let some : ¬ now.decisions ≡ [] = λ none.
     let empty : length c.self.inside.decisions.items ≡ 0 = ap (λ (s : Searching). length s.decisions) c.self.view_is ∙ ap length none in
     let size : vec_len c.self.inside.decisions ≡ 0 = omega arith in
@@ -42,7 +43,8 @@ returns c =
     let bound : c.behind-self.inside.allowance ≡ now.trial.problem.allowance =
     ap (λ (p : ClauseProblem). p.allowance) (c.behind-self.view_is ∙ c.problem.ensures.problem ∙ ap (λ (s : Searching). s.trial.problem) c.self.view_is) in
     let more : ¬ length now.trial.learned ≡ now.trial.problem.allowance = λ all.
-    c.if-self-problem.false (c.self.invariant.counted ∙ ap (λ (s : Searching). length s.trial.learned) c.self.view_is ∙ all ∙ sym bound) in
+    c.if-len-problem.false
+    (c.len.ensures ∙ ap (λ (lines : List (List Lit)). length lines) (c.learned.ensures ∙ ap (λ (s : Searching). s.trial.learned) c.self.view_is) ∙ all ∙ sym bound) in
     let learned : c.learn.new.self.trial.learned ≡ now.trial.learned ++ some_true left ∷ [] =
     c.in_ok-learn.ensures.learned ∙ ap (λ lines. lines ++ some_true left ∷ []) (c.in_ok-trimmed.ensures.stays.1 ∙ ap (λ (s : Searching). s.trial.learned) c.self.view_is) in
     let stays : c.learn.new.self.decisions ≡ cut_after now.decisions (reverse left) =

@@ -1,7 +1,7 @@
 use Rattle.std.proofs.Common.{◌∙◌, refl, sym, take, get_or, subst, arith}
 use Rattle.std.proofs.lemmas.List.{take_all}
-use Rattle.solver.specs.TestLaws.{same-transitive}
-use Rattle.solver.proofs.TrialLaws.{IsTried, clash-start, tried-start, tried-next, tried-clash, tried-calm, clashes-same, first-within, tried-push-set}
+use Rattle.solver.specs.inside.TestLaws.{same-transitive}
+use Rattle.solver.proofs.TrialLaws.{IsTried, clash-start, tried-start, tried-next, tried-clash, tried-no_clash, clashes-same, first-within, tried-push-set}
 use Rattle.solver.proofs.trial.TrialMonotoneTest.holds.Goals as goal
 
 pub returns-then-clashes-clause-answer : goal.returns-then-clashes-clause-answer
@@ -11,7 +11,7 @@ pub loop-number-init : goal.loop-number-init
 loop-number-init c = tried-start c.args.self.now c.reset.new.self c.reset.ensures (sym c.clashes.ensures ∙ c.if-clashes.false)
 
 pub try_number-requires : goal.try_number-requires
-try_number-requires c = c.loop-number.invariant.calm
+try_number-requires c = c.loop-number.invariant.no_clash
 
 pub returns-then-not-try_number-clause-answer : goal.returns-then-not-try_number-clause-answer
 returns-then-not-try_number-clause-answer c = (
@@ -36,14 +36,14 @@ loop-number-preserved c =
     (tried-next c.args.self.now c.loop-number.self c.try_number.new.self (take c.loop-number.number-index c.args.set.now) (get_or c.args.set.now c.loop-number.number-index 0) c.loop-number.invariant
     c.try_number.ensures.same c.try_number.ensures.within c.try_number.ensures.more
     (c.try_number.ensures.negative c.if-not-try_number.false)
-    (c.try_number.ensures.calm c.if-not-try_number.false))
+    (c.try_number.ensures.no_clash c.if-not-try_number.false))
 
 pub returns-clause-answer : goal.returns-clause-answer
 returns-clause-answer c = (
   (λ never. absurd (cc)),
   (λ clashes.
       absurd
-      (tried-calm c.args.self.now c.loop-number.self c.args.set.now
+      (tried-no_clash c.args.self.now c.loop-number.self c.args.set.now
       (subst (IsTried c.args.self.now c.loop-number.self) (take_all c.loop-number.number-index c.args.set.now (omega arith)) c.loop-number.invariant)
       clashes)),
 )

@@ -3,7 +3,7 @@ use Rattle.std.specs.Prelude.{◌≡◌, ◌+◌, ◌≤◌, ℕ, Bool, IsFalse,
 use Rattle.clauses.specs.Closure.{clash}
 use Rattle.clauses.specs.Problem.{IsBelow, IsProblem}
 use Rattle.propagation.specs.Propagation.{Propagation, propagated}
-use Rattle.propagation.specs.Values.{Shows}
+use Rattle.propagation.specs.inside.Values.{Shows}
 
 -- the kept answer on the clash is right, and where there is none the kept values are those of the closure; there is
 -- room for as many assumed literals as the caller may have

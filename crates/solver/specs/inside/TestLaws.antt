@@ -9,7 +9,7 @@ use Rattle.clauses.specs.Closure.{closure, clash}
 use Rattle.lists.proofs.Members.{from_map, to_map, from_filter, to_filter}
 use Rattle.clauses.proofs.LeastLaws.{closure-among, clash-among}
 use Rattle.propagation.proofs.ValueLaws.{part-among}
-use Rattle.solver.specs.Trials.{Trying, with_false, variables_in, Clashes, SameButTried}
+use Rattle.solver.specs.inside.Trials.{Trying, with_false, variables_in, Clashes, SameButTried}
 
 -- ---- the clauses of more variables
 

@@ -9,7 +9,7 @@ use Rattle.clauses.specs.Problem.{ClauseProblem, clauses_with, roots_at}
 use Rattle.clauses.specs.Search.{SearchAnswer, Sat, Unsat, Limit, Standing, Turn, GoesOn, Ends, turn, under, values_of}
 use Rattle.solver.specs.declared.search.Ending.{Ending}
 use Rattle.solver.specs.declared.search.Ending.TheVariants as ending
-use Rattle.solver.specs.Trials.{Trying, with_false}
+use Rattle.solver.specs.inside.Trials.{Trying, with_false}
 
 -- what is tried, and the decisions
 pub record Searching : Type 0 where
@@ -55,8 +55,7 @@ Begins problem key (Some at) =
     at ≡ record { trial = record { problem = problem; learned = []; fixed = roots_at problem key; tried = [] }; decisions = [] }
 
 -- what a `Search` keeps: the decisions are distinct variables, and no more is learned than is allowed
-pub record IsSearch (trial : Trying) (decisions : List ℕ) (learned : ℕ) : Type 0 where
-  pub counted : learned ≡ length trial.learned
-  pub allowed : learned ≤ trial.problem.allowance
+pub record IsSearch (trial : Trying) (decisions : List ℕ) : Type 0 where
+  pub allowed : length trial.learned ≤ trial.problem.allowance
   pub distinct : IsDistinct decisions
   pub below : All (λ variable. variable < trial.problem.variables) decisions

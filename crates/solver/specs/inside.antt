@@ -1,0 +1,4 @@
+-- What serves private functions and the invariants of a search.
+pub mod Searching
+pub mod TestLaws
+pub mod Trials
