@@ -12,11 +12,6 @@ pub OnErr-holds : {T E : Type 0} (r : Result T E) (P : Type 0) → P → OnErr r
 OnErr-holds (Ok x) P p = tt
 OnErr-holds (Err e) P p = p
 
--- what follows from what holds after an Ok
-pub OnOk-then : {T E : Type 0} (r : Result T E) (P Q : Type 0) → (P → Q) → OnOk r P → OnOk r Q
-OnOk-then (Ok x) P Q f p = f p
-OnOk-then (Err e) P Q f p = tt
-
 -- what holds of the value after either result
 pub after_either : {T E V : Type 0} (P : V → Type 0) (r : Result T E) (new ok err : V) → OnOk r (new ≡ ok) → OnErr r (new ≡ err) → P ok → P err → P new
 after_either P (Ok x) new ok err on_ok on_err p q = subst P (sym on_ok) p

@@ -1,5 +1,5 @@
 -- One look over the tokens says whether they have a formula.
-use Rattle.std.proofs.Common.{◌≡◌, ◌∙◌, refl, ap, sym, subst, ℕ, zero, suc, ◌+◌, ◌<◌, Bool, true, false, not, ◌||◌, List, [], ◌∷◌, ◌++◌, length, append_assoc, Option, Some, None, arith}
+use Rattle.std.proofs.Common.{◌≡◌, ◌∙◌, refl, ap, sym, subst, ℕ, zero, suc, ◌+◌, ◌<◌, Bool, true, false, ◌||◌, List, [], ◌∷◌, ◌++◌, length, append_assoc, Option, Some, None, arith}
 use Rattle.std.proofs.lemmas.List.{append-nil}
 use Rattle.feature_tree.specs.declared.reader.parsed.Parsed.{Parsed}
 use Rattle.feature_tree.specs.declared.reader.role.Level.{Level}
@@ -296,11 +296,3 @@ at_end-open tokens [] true depth same ends some = sym same
 at_end-open tokens [] false zero same ends some = absurd (omega arith)
 at_end-open tokens [] false (suc depth) same ends some = sym same
 at_end-open tokens (role ∷ rest) wants_operand depth same ends some = absurd (cc)
-
-pub not-true : {b : Bool} → not b ≡ true → b ≡ false
-not-true {b = true} is = sym is
-not-true {b = false} is = refl
-
-pub not-false : {b : Bool} → not b ≡ false → b ≡ true
-not-false {b = true} is = refl
-not-false {b = false} is = sym is

@@ -1,10 +1,10 @@
 -- Worked examples: the answers to whole lists of tokens, each computed. The values were worked out by hand.
-use Rattle.std.specs.Prelude.{◌≡◌, ℕ, zero, suc, List, [], ◌∷◌, ◌++◌, map, Result, Ok, Err, refl}
-use Rattle.uvl_lex.specs.declared.token.Keyword.TheVariants.{Or}
-use Rattle.uvl_lex.specs.declared.token.Mark.TheVariants.{Amp, Bang, Bar, CloseRound, Iff, OpenRound, Then}
+use Rattle.std.specs.Prelude.{◌≡◌, ℕ, zero, suc, ◌+◌, ◌*◌, List, [], ◌∷◌, ◌++◌, map, Result, Ok, Err, refl}
+use Rattle.uvl_lex.specs.declared.token.Keyword.TheVariants.{Or, True}
+use Rattle.uvl_lex.specs.declared.token.Mark.TheVariants.{Amp, AtMost, Bang, Bar, CloseRound, CloseSquare, Iff, OpenRound, OpenSquare, Then}
 use Rattle.uvl_lex.specs.declared.token.Token.{Token}
 use Rattle.uvl_lex.specs.declared.token.TokenKind.{TokenKind}
-use Rattle.uvl_lex.specs.declared.token.TokenKind.TheVariants.{Name as NameToken, Number, Keyword, Mark}
+use Rattle.uvl_lex.specs.declared.token.TokenKind.TheVariants.{Name as NameToken, Quoted, Text, Number, Keyword, Mark}
 use Rattle.feature_tree.specs.declared.formula.Formula.{Formula}
 use Rattle.feature_tree.specs.declared.formula.Formula.TheVariants.{Name, Not, All, Any, Implies, Same}
 use Rattle.feature_tree.specs.declared.reader.error.FormulaError.{FormulaError}
@@ -51,6 +51,16 @@ close_round = Mark CloseRound
 abbrev many : ℕ → TokenKind → List TokenKind
 many zero kind = []
 many (suc count) kind = kind ∷ many count kind
+
+-- `a => a => ..` with so many joints
+abbrev arrows : ℕ → List TokenKind
+arrows zero = a ∷ []
+arrows (suc count) = a ∷ implies ∷ arrows count
+
+-- what it stands for
+abbrev leftwards : ℕ → Formula
+leftwards zero = Name 0
+leftwards (suc count) = Implies (leftwards count) (Name (2 * (count + 1)))
 
 -- so many negations
 abbrev nots : ℕ → Formula → Formula
@@ -134,6 +144,23 @@ pub nothing_inside : formula_answer (tokens (open_round ∷ close_round ∷ []))
 unfolding computing
 nothing_inside = refl
 
+-- `a b`, `(a) b`, `a !` and `[a]`
+pub two_names : formula_answer (tokens (a ∷ a ∷ [])) ≡ Err BadFormula
+unfolding computing
+two_names = refl
+
+pub a_name_behind : formula_answer (tokens (open_round ∷ a ∷ close_round ∷ a ∷ [])) ≡ Err BadFormula
+unfolding computing
+a_name_behind = refl
+
+pub a_negation_behind : formula_answer (tokens (a ∷ no ∷ [])) ≡ Err BadFormula
+unfolding computing
+a_negation_behind = refl
+
+pub in_square_brackets : formula_answer (tokens (Mark OpenSquare ∷ a ∷ Mark CloseSquare ∷ [])) ≡ Err BadFormula
+unfolding computing
+in_square_brackets = refl
+
 -- a reserved word
 pub a_keyword : formula_answer (tokens (Keyword Or ∷ [])) ≡ Err BadFormula
 unfolding computing
@@ -149,6 +176,15 @@ pub one_too_high : formula_answer (tokens (many 200 no ++ a ∷ [])) ≡ Err Too
 unfolding computing
 one_too_high = refl
 
+-- and so has a chain of 199 joints that groups from the left
+pub a_chain_as_high : formula_answer (tokens (arrows 199)) ≡ formula (leftwards 199)
+unfolding computing
+a_chain_as_high = refl
+
+pub a_chain_too_high : formula_answer (tokens (arrows 200)) ≡ Err TooDeep
+unfolding computing
+a_chain_too_high = refl
+
 -- ---- the first refusal that holds
 
 -- `a & 1 )`: a number comes before all else
@@ -161,6 +197,27 @@ pub a_call : formula_answer (tokens (a ∷ open_round ∷ a ∷ close_round ∷ 
 unfolding computing
 a_call = refl
 
+-- `"f" (a)` is one too
+pub a_quoted_call : formula_answer (tokens (Quoted ∷ open_round ∷ a ∷ close_round ∷ [])) ≡ Err Unsupported
+unfolding computing
+a_quoted_call = refl
+
+-- `a <= b`
+pub a_comparison : formula_answer (tokens (a ∷ Mark AtMost ∷ a ∷ [])) ≡ Err Unsupported
+unfolding computing
+a_comparison = refl
+
+-- a text
+pub a_text : formula_answer (tokens (Text ∷ [])) ≡ Err Unsupported
+unfolding computing
+a_text = refl
+
+-- `true`
+pub a_truth_value : formula_answer (tokens (Keyword True ∷ [])) ≡ Err Unsupported
+unfolding computing
+a_truth_value = refl
+
+-- too many negations of a number, and of two names
 pub unsupported_before_too_deep : formula_answer (tokens (many 200 no ++ Number ∷ [])) ≡ Err Unsupported
 unfolding computing
 unsupported_before_too_deep = refl

@@ -6,6 +6,7 @@ ghost use Rattle.std.specs.Cmp.Rules.{comparing, hashing};
 ghost use Rattle.std.specs.Hash as fed;
 ghost use Rattle.std.proofs.Common.{rules};
 
+use lists::Row;
 use std::alloc::{AllocError, Global};
 use std::hash::{Hash, Hasher};
 use std::marker::Model;
@@ -13,7 +14,7 @@ use std::marker::Model;
 /// A name, as bytes without quotes. Two are equal where their bytes are.
 #[derive(Debug, Drop)]
 pub struct Text {
-    bytes: Vec<u8>,
+    bytes: Row<u8>,
 }
 
 impl Model for Text {
@@ -21,7 +22,7 @@ impl Model for Text {
 
     ghost Value = { List ℕ };
 
-    ghost view = { λ text. text.bytes.items };
+    ghost view = { λ text. text.bytes };
 }
 
 impl Text {
@@ -30,7 +31,7 @@ impl Text {
         ensures { result ≡ [] }
     {
         Text {
-            bytes: Vec::new(alloc),
+            bytes: Row::new(alloc),
         }
     }
 
@@ -39,7 +40,7 @@ impl Text {
         ensures { IfOk result (λ text. text ≡ bytes.now) }
     {
         Ok(Text {
-            bytes: Vec::from_slice(alloc, bytes)?,
+            bytes: Row::from_slice(alloc, bytes)?,
         })
     }
 
@@ -62,7 +63,7 @@ impl Text {
         requires { i < length self.now }
         ensures { slice_get self.now i ≡ Some result.now }
     {
-        &self.bytes[i]
+        self.bytes.get(i)
     }
 
     /// One more byte, the last.
@@ -70,8 +71,7 @@ impl Text {
         ensures ok { OnOk result (self.new ≡ self.old ++ item ∷ []) }
         ensures err { OnErr result (self.new ≡ self.old) }
     {
-        self.bytes.push(item)?;
-        Ok(())
+        self.bytes.push(item)
     }
 }
 

@@ -122,8 +122,8 @@ both c = is_ascii_digit c && starts_name c
 digit_starts_no_name : (c : ℕ) → is_ascii_digit c ≡ true → starts_name c ≡ false
 unfolding both unicode_ident
 digit_starts_no_name c h =
-    let pieces_from = and_parts (nat_le 48 c) (nat_le c 57) h in
-    let most : c ≤ 57 = leb-true c 57 pieces_from.1 in
+    let parts = and_parts (nat_le 48 c) (nat_le c 57) h in
+    let most : c ≤ 57 = leb-true c 57 parts.1 in
     let neither : (is_ascii_digit c && starts_name c) ≡ false = agree_below_at both (λ _. false) 58 c refl (omega arith) in
     rw h at neither
 

@@ -113,8 +113,8 @@ after_front p c cs h = let e : prefix_len p (c ∷ cs) ≡ suc (prefix_len p cs)
 -- what a plain character is, and what another one between the quotes is
 plain_inside : (c : ℕ) → is_plain c ≡ true → (is_inside quote c ≡ true) × ((c == dot) ≡ false)
 plain_inside c h =
-    let pieces_from = and_parts (not (c == dot)) (is_inside quote c) h in
-    (pieces_from.1, elim (cases_Bool (c == dot)) [ inl y ↦ let n : not (c == dot) ≡ false = rw y refl in cc | inr n ↦ n ])
+    let parts = and_parts (not (c == dot)) (is_inside quote c) h in
+    (parts.1, elim (cases_Bool (c == dot)) [ inl y ↦ let n : not (c == dot) ≡ false = rw y refl in cc | inr n ↦ n ])
 
 dot_inside : (c : ℕ) → is_plain c ≡ false → is_inside quote c ≡ true → (c == dot) ≡ true
 dot_inside c n i =

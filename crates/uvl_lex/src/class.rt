@@ -1,5 +1,7 @@
 //! Classes of characters.
-ghost use Rattle.std.specs.Prelude.{◌≡◌};
+ghost use Rattle.std.specs.Prelude.{◌≡◌, ◌||◌, ◌==◌};
+ghost use Rattle.std.specs.Char.{is_ascii_alphanumeric};
+ghost use Rattle.unicode_ident.specs.Ident.{is_xid_start, is_xid_continue};
 ghost use Rattle.uvl_lex.specs.inside.Classes.{in_class};
 ghost use Rattle.uvl_lex.specs.Pieces.{starts_name, is_in_name};
 
@@ -35,15 +37,49 @@ impl Class {
 }
 
 /// Whether a name may begin with the character.
+#[inline]
 pub(crate) fn starts_name(c: char) -> bool
     ensures { result ≡ starts_name c }
 {
-    unicode_ident::is_xid_start(c) || c == '_'
+    starts_identifier(c) || c == '_'
 }
 
 /// Whether the character may stand in a name after the first.
+#[inline]
 fn is_in_name(c: char) -> bool
     ensures { result ≡ is_in_name c }
 {
-    unicode_ident::is_xid_continue(c) || matches!(c, '#' | '%' | '?' | '\'' | '\\' | '§')
+    is_in_identifier(c) || matches!(c, '#' | '%' | '?' | '\'' | '\\' | '§')
+}
+
+/// Whether an identifier may begin with the character. Most are ASCII, which needs no table.
+#[inline]
+fn starts_identifier(c: char) -> bool
+    ensures { result ≡ is_xid_start c }
+{
+    if c.is_ascii() {
+        c.is_ascii_alphabetic()
+    } else {
+        unicode_ident::is_xid_start(c)
+    }
+}
+
+/// Whether the character may stand in an identifier. Most are ASCII, which needs no table.
+#[inline]
+fn is_in_identifier(c: char) -> bool
+    ensures { result ≡ is_xid_continue c }
+{
+    if c.is_ascii() {
+        is_word(c)
+    } else {
+        unicode_ident::is_xid_continue(c)
+    }
+}
+
+/// A letter or digit of ASCII, or `_`.
+#[inline]
+fn is_word(c: char) -> bool
+    ensures { result ≡ (is_ascii_alphanumeric c || (c == 95)) }
+{
+    c.is_ascii_alphanumeric() || c == '_'
 }

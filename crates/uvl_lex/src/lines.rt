@@ -49,5 +49,5 @@ fn read_from(alloc: Global, start: Cursor<'_>) -> Result<Lines, LexError>
         reader.take(alloc, what, cursor.place(), after.place())?;
         cursor = after;
     }
-    reader.finish()
+    reader.finish(alloc)
 }

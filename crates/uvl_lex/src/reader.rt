@@ -9,16 +9,25 @@ use crate::place::Place;
 use crate::token::{Line, Lines, Token, Tokens};
 use std::alloc::{AllocError, Global};
 
+/// Where a line begins.
+#[derive(Clone, Copy)]
+pub(crate) struct Beginning {
+    pub number: u32,
+    pub indent: u32,
+}
+
 /// The lines that have ended, the one that has begun, and the brackets that are open in it.
 #[derive(Drop)]
 pub(crate) struct Reader {
     lines: Lines,
-    current: Option<Line>,
+    begun: Option<Beginning>,
+    /// The tokens of the line that has begun. One buffer serves every line, which gets a copy of its own size.
+    gathered: Vec<Token>,
     open_brackets: Brackets,
 }
 
 impl Reader {
-    ghost use Rattle.uvl_lex.specs.inside.Progress.{lines_after, ended, grown};
+    ghost use Rattle.uvl_lex.specs.inside.Progress.{lines_after, current, ended, grown};
     ghost use Rattle.uvl_lex.specs.Reading.{run_of, on_ok, all_lines, IsRefusal};
 
     /// A reader that has read nothing.
@@ -27,7 +36,8 @@ impl Reader {
     {
         Reader {
             lines: Lines::new(alloc),
-            current: None,
+            begun: None,
+            gathered: Vec::new(alloc),
             open_brackets: Brackets::new(alloc),
         }
     }
@@ -47,7 +57,7 @@ impl Reader {
             Piece::Blank | Piece::Comment => Ok(()),
             Piece::LineEnd => {
                 if self.open_brackets.is_empty() {
-                    self.end_line()?;
+                    self.end_line(alloc)?;
                 }
                 Ok(())
             }
@@ -64,7 +74,7 @@ impl Reader {
                         reason: LexReason::BadToken,
                     });
                 }
-                self.add(alloc, token, from.column)?;
+                self.add(token, from.column)?;
                 Ok(())
             }
             Piece::Fault(reason) => Err(LexError::Refused {
@@ -75,39 +85,41 @@ impl Reader {
     }
 
     /// The current line, if there is one, has ended.
-    fn end_line(&mut self) -> Result<(), AllocError>
-        ensures lines { OnOk result (self.new.lines ≡ ended self.old.lines self.old.current) }
-        ensures current { OnOk result (self.new.current ≡ None) }
+    fn end_line(&mut self, alloc: Global) -> Result<(), AllocError>
+        ensures lines { OnOk result (self.new.lines ≡ ended self.old.lines (current self.old)) }
+        ensures none { OnOk result (current self.new ≡ None) }
         ensures brackets { OnOk result (self.new.open_brackets ≡ self.old.open_brackets) }
     {
-        if let Some(mut line) = self.current.take() {
-            line.tokens.shrink_to_fit();
-            self.lines.push(line)?;
+        if let Some(Beginning { number, indent }) = self.begun.take() {
+            let tokens = Tokens::from_slice(alloc, self.gathered.as_slice())?;
+            self.lines.push(Line {
+                number,
+                indent,
+                tokens,
+            })?;
         }
         Ok(())
     }
 
     /// The token goes on with the current line, or begins one.
-    fn add(&mut self, alloc: Global, token: Token, column: u32) -> Result<(), AllocError>
+    fn add(&mut self, token: Token, column: u32) -> Result<(), AllocError>
         ensures lines { OnOk result (self.new.lines ≡ self.old.lines) }
-        ensures current { OnOk result (self.new.current ≡ Some (grown self.old.current token column)) }
+        ensures current { OnOk result (current self.new ≡ Some (grown (current self.old) token column)) }
         ensures brackets { OnOk result (self.new.open_brackets ≡ self.old.open_brackets) }
     {
-        match &mut self.current {
-            Some(line) => line.tokens.push(token)?,
-            None => {
-                self.current = Some(Line {
-                    number: token.line,
-                    indent: column,
-                    tokens: Tokens::of(alloc, token)?,
-                });
-            }
+        if self.begun.is_none() {
+            self.gathered.clear();
+            self.begun = Some(Beginning {
+                number: token.line,
+                indent: column,
+            });
         }
+        self.gathered.push(token)?;
         Ok(())
     }
 
     /// The lines, at the end of the text.
-    pub fn finish(mut self) -> Result<Lines, LexError>
+    pub fn finish(mut self, alloc: Global) -> Result<Lines, LexError>
         ensures ok { IfOk result (λ lines. lines_after self [] ≡ Ok lines) }
         ensures refused { IfErr result (λ e. IsRefusal e (lines_after self [])) }
     {
@@ -117,7 +129,7 @@ impl Reader {
                 reason: LexReason::OpenBracket,
             });
         }
-        self.end_line()?;
+        self.end_line(alloc)?;
         Ok(self.lines)
     }
 }

@@ -139,20 +139,12 @@ impl Tokens {
         Ok(())
     }
 
-    /// The list of one token, with room for no more, since many lines have just one.
-    pub(crate) fn of(alloc: Global, item: Token) -> Result<Self, AllocError>
-        ensures { IfOk result (λ tokens. tokens ≡ item ∷ []) }
+    /// A copy of the tokens, with room for no more.
+    pub(crate) fn from_slice(alloc: Global, items: &[Token]) -> Result<Self, AllocError>
+        ensures { IfOk result (λ tokens. tokens ≡ items.now) }
     {
-        let mut items = Vec::with_capacity(alloc, 1)?;
-        items.push(item)?;
+        let items = Vec::from_slice(alloc, items)?;
         Ok(Tokens { items })
-    }
-
-    /// Gives back the memory that no token takes.
-    pub(crate) fn shrink_to_fit(&mut self)
-        ensures { self.new ≡ self.old }
-    {
-        self.items.shrink_to_fit();
     }
 }
 

@@ -1,29 +1,36 @@
 //! Reserved words and marks.
 ghost use Rattle.std.specs.Prelude.{◌≡◌, IfSome};
 ghost use Rattle.uvl_lex.specs.Words.{keyword_of, spelling};
-ghost use Rattle.uvl_lex.specs.inside.Classes.{mark_of, less_of, equals_of, one_or_two, single_of, IsWidth};
+ghost use Rattle.uvl_lex.specs.inside.Classes.{words_of_len, mark_of, less_of, equals_of, one_or_two, single_of, IsWidth};
 
 use crate::token::{Keyword, Mark};
 
-/// Every reserved word.
-const KEYWORDS: [Keyword; 16] = [
-    Keyword::Namespace,
-    Keyword::Include,
-    Keyword::Imports,
-    Keyword::Features,
-    Keyword::Constraints,
-    Keyword::Mandatory,
-    Keyword::Optional,
-    Keyword::Or,
-    Keyword::Alternative,
-    Keyword::Cardinality,
-    Keyword::Boolean,
-    Keyword::Integer,
-    Keyword::Real,
-    Keyword::String,
-    Keyword::True,
-    Keyword::False,
-];
+/// The reserved words of this many bytes.
+#[tactic(auto, unfolding(crate::specs::inside::Classes::words_of_len))]
+fn words_of_len(len: usize) -> &'static [Keyword]
+    ensures { result.now ≡ words_of_len len }
+{
+    match len {
+        2 => &[Keyword::Or],
+        4 => &[Keyword::Real, Keyword::True],
+        5 => &[Keyword::False],
+        6 => &[Keyword::String],
+        7 => &[
+            Keyword::Include,
+            Keyword::Imports,
+            Keyword::Boolean,
+            Keyword::Integer,
+        ],
+        8 => &[Keyword::Features, Keyword::Optional],
+        9 => &[Keyword::Namespace, Keyword::Mandatory],
+        11 => &[
+            Keyword::Constraints,
+            Keyword::Alternative,
+            Keyword::Cardinality,
+        ],
+        _ => &[],
+    }
+}
 
 /// How the word is written.
 fn spelling(keyword: Keyword) -> &'static [u8]
@@ -53,9 +60,9 @@ fn spelling(keyword: Keyword) -> &'static [u8]
 pub(crate) fn keyword_of(text: &[u8]) -> Option<Keyword>
     ensures { result ≡ keyword_of text.now }
 {
-    for keyword in KEYWORDS {
-        if spelling(keyword) == text {
-            return Some(keyword);
+    for keyword in words_of_len(text.len()) {
+        if spelling(*keyword) == text {
+            return Some(*keyword);
         }
     }
     None

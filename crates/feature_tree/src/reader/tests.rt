@@ -5,112 +5,23 @@ use super::*;
 use std::test::Fail;
 use uvl_lex::{LexError, Mark, TokenKind, logical_lines};
 
-// A text of tokens, and the formula that it stands for, with the number of its token for each name; or the refusal.
-const FORMULAS: [(&[u8], &str); 42] = [
+// A text, and the formula of its tokens with the number of its token for each name, or the refusal. What each list of
+// tokens stands for is in the worked examples of `specs/FormulaAnswerExamples.antt`; these go through the lexer too.
+const FORMULAS: [(&[u8], &str); 14] = [
     (b"A", "0"),
     (b"\"A b\"", "0"),
-    (b"\"or\"", "0"),
-    (b"!A", "!1"),
-    (b"!!A", "!!2"),
-    (b"(A)", "1"),
-    (b"((A))", "2"),
-    (b"!(A)", "!2"),
-    (b"(!A)", "!2"),
     (b"!(!(A))", "!!4"),
-    (b"A & B", "(0 & 2)"),
     (b"A & B & C", "(0 & 2 & 4)"),
-    (b"A | B", "(0 | 2)"),
-    (b"A | B | C | D", "(0 | 2 | 4 | 6)"),
-    (b"A => B", "(0 => 2)"),
-    (b"A => B => C", "((0 => 2) => 4)"),
-    (b"A => B => C => D", "(((0 => 2) => 4) => 6)"),
-    (b"A <=> B", "(0 <=> 2)"),
-    (b"A <=> B <=> C", "((0 <=> 2) <=> 4)"),
-    (b"A & B | C", "((0 & 2) | 4)"),
     (b"A | B & C", "(0 | (2 & 4))"),
-    (b"A & B | C & D", "((0 & 2) | (4 & 6))"),
-    (b"A | B | C & D | E", "(0 | 2 | (4 & 6) | 8)"),
-    (b"A => B | C", "(0 => (2 | 4))"),
-    (b"A | B => C", "((0 | 2) => 4)"),
-    (b"A & B => C | D", "((0 & 2) => (4 | 6))"),
-    (b"A <=> B => C", "(0 <=> (2 => 4))"),
-    (b"A => B <=> C", "((0 => 2) <=> 4)"),
+    (b"A => B => C", "((0 => 2) => 4)"),
     (b"A <=> B => C <=> D", "((0 <=> (2 => 4)) <=> 6)"),
-    (b"A&B|C=>D<=>E", "((((0 & 2) | 4) => 6) <=> 8)"),
-    (b"!A & B", "(!1 & 3)"),
-    (b"A & !B", "(0 & !3)"),
-    (b"!A => B", "(!1 => 3)"),
-    (b"!(A & B)", "!(2 & 4)"),
-    (b"(A & B) & C", "((1 & 3) & 6)"),
-    (b"A & (B & C)", "(0 & (3 & 5))"),
-    (b"(A | B) & C", "((1 | 3) & 6)"),
-    (b"A => (B => C)", "(0 => (3 => 5))"),
-    (b"(A => B) => C", "((1 => 3) => 6)"),
     (b"(A <=> B) & !(C)", "((1 <=> 3) & !8)"),
     (b"A /* ( */ & B", "(0 & 2)"),
     (b"(A\n& B)", "(1 & 3)"),
-];
-
-// No formula stands for these.
-const BAD: [(&[u8], &str); 21] = [
-    (b"or", "BadFormula"),
     (b"A & or", "BadFormula"),
-    (b"A &", "BadFormula"),
-    (b"& A", "BadFormula"),
-    (b"A B", "BadFormula"),
-    (b"A & & B", "BadFormula"),
-    (b"A !", "BadFormula"),
-    (b"A !B", "BadFormula"),
-    (b"A & B =>", "BadFormula"),
-    (b"!", "BadFormula"),
-    (b"()", "BadFormula"),
-    (b"!()", "BadFormula"),
-    (b"(A) (B)", "BadFormula"),
-    (b"(A) B", "BadFormula"),
-    (b"(A & )", "BadFormula"),
-    (b"A..B", "BadFormula"),
-    (b"[A]", "BadFormula"),
-    (b"{A}", "BadFormula"),
-    (b"A, B", "BadFormula"),
-    (b"A : B", "BadFormula"),
-    (b"A ;", "BadFormula"),
-];
-
-// These have a token that no formula has yet; the last of them are no formula either.
-const UNSUPPORTED: [(&[u8], &str); 33] = [
-    (b"f(A)", "Unsupported"),
-    (b"f (A)", "Unsupported"),
     (b"f /* */ (A)", "Unsupported"),
-    (b"\"f\"(A)", "Unsupported"),
-    (b"A & f (B)", "Unsupported"),
-    (b"A == B", "Unsupported"),
-    (b"A = B", "Unsupported"),
-    (b"A != B", "Unsupported"),
-    (b"A < B", "Unsupported"),
-    (b"A > B", "Unsupported"),
     (b"A <= B", "Unsupported"),
-    (b"A >= B", "Unsupported"),
-    (b"A + B", "Unsupported"),
-    (b"A - B", "Unsupported"),
-    (b"A * B", "Unsupported"),
-    (b"A / B", "Unsupported"),
-    (b"A.B", "Unsupported"),
-    (b"true", "Unsupported"),
-    (b"false", "Unsupported"),
-    (b"A => true", "Unsupported"),
-    (b"1", "Unsupported"),
-    (b"1 & a", "Unsupported"),
-    (b"A & 2", "Unsupported"),
-    (b"'x'", "Unsupported"),
-    (b"\"A.B\"", "Unsupported"),
     (b"\"\"", "Unsupported"),
-    (b"& 1", "Unsupported"),
-    (b"A B ==", "Unsupported"),
-    (b"true true", "Unsupported"),
-    (b"f()", "Unsupported"),
-    (b"or ) . (", "1 BadToken"),
-    (b"[f(A)]", "Unsupported"),
-    (b"or 'x'", "Unsupported"),
 ];
 
 fn is_short(tokens: &[Token]) -> bool
@@ -200,24 +111,6 @@ fn reads_formulas(rt: HostRuntime) -> Result<(), Fail> {
     Ok(())
 }
 
-#[test]
-fn refuses_what_is_no_formula(rt: HostRuntime) -> Result<(), Fail> {
-    for (bytes, want) in BAD {
-        let found = shown(rt.alloc(), bytes)?;
-        assert_eq!(rt; found.as_str(), want, "of {bytes:?}");
-    }
-    Ok(())
-}
-
-#[test]
-fn refuses_what_is_unsupported(rt: HostRuntime) -> Result<(), Fail> {
-    for (bytes, want) in UNSUPPORTED {
-        let found = shown(rt.alloc(), bytes)?;
-        assert_eq!(rt; found.as_str(), want, "of {bytes:?}");
-    }
-    Ok(())
-}
-
 // The role that a letter stands for in the lists below: `>` is `=>`, and `1` a number.
 fn token_of(letter: u8) -> Token {
     let kind = match letter {
@@ -275,36 +168,14 @@ fn write_kind(alloc: Global, out: &mut String, tokens: &[Token]) -> Result<(), F
     Ok(())
 }
 
-// Heights of 199, 200 and 201, by each way in which a formula grows high.
+// Heights of 200 and 201 by parentheses; by the other ways they are worked examples.
 #[test]
 fn reads_heights_up_to_the_limit(rt: HostRuntime) -> Result<(), Fail> {
     let alloc = rt.alloc();
-    assert!(rt; kind_of(alloc, b"!", b"A", b"", 198)?.as_str() == "formula");
-    assert!(rt; kind_of(alloc, b"!", b"A", b"", 199)?.as_str() == "formula");
-    assert!(rt; kind_of(alloc, b"!", b"A", b"", 200)?.as_str() == "TooDeep");
-    assert!(rt; kind_of(alloc, b"(", b"A", b")", 198)?.as_str() == "formula");
     assert!(rt; kind_of(alloc, b"(", b"A", b")", 199)?.as_str() == "formula");
     assert!(rt; kind_of(alloc, b"(", b"A", b")", 200)?.as_str() == "TooDeep");
-    assert!(rt; kind_of(alloc, b"A>", b"A", b"", 198)?.as_str() == "formula");
-    assert!(rt; kind_of(alloc, b"A>", b"A", b"", 199)?.as_str() == "formula");
-    assert!(rt; kind_of(alloc, b"A>", b"A", b"", 200)?.as_str() == "TooDeep");
     assert!(rt; kind_of(alloc, b"(A&", b"A", b")", 99)?.as_str() == "formula");
     assert!(rt; kind_of(alloc, b"(A&", b"A", b")", 100)?.as_str() == "TooDeep");
-    Ok(())
-}
-
-// Unsupported, then BadFormula, then TooDeep.
-#[test]
-fn gives_the_first_refusal(rt: HostRuntime) -> Result<(), Fail> {
-    let alloc = rt.alloc();
-    assert!(rt; kind_of(alloc, b"", b"", b"", 0)?.as_str() == "BadFormula");
-    assert!(rt; kind_of(alloc, b"!", b"A&1", b"", 300)?.as_str() == "Unsupported");
-    assert!(rt; kind_of(alloc, b"!", b"A(A)", b"", 300)?.as_str() == "Unsupported");
-    assert!(rt; kind_of(alloc, b"!", b"AA", b"", 300)?.as_str() == "BadFormula");
-    assert!(rt; kind_of(alloc, b"!", b"", b"", 300)?.as_str() == "BadFormula");
-    assert!(rt; kind_of(alloc, b"(", b"", b")", 300)?.as_str() == "BadFormula");
-    assert!(rt; kind_of(alloc, b"A>", b"AA", b"", 300)?.as_str() == "BadFormula");
-    assert!(rt; kind_of(alloc, b"A>", b"1", b"", 300)?.as_str() == "Unsupported");
     Ok(())
 }
 

@@ -1,14 +1,16 @@
--- What private functions answer on characters: classes, and the marks by their first characters. The proofs join
--- these to the tables of `Words` and to `Pieces`.
-use Rattle.std.specs.Prelude.{◌≡◌, ℕ, ◌<◌, ◌==◌, Bool, false, not, ◌&&◌, if◌then◌else◌, Option, Some, None}
+-- What private functions answer on characters: classes, the reserved words by their length, and the marks by their first
+-- characters. The proofs join these to the tables of `Words` and to `Pieces`.
+use Rattle.std.specs.Prelude.{◌≡◌, ℕ, ◌<◌, ◌==◌, Bool, false, not, ◌&&◌, if◌then◌else◌, List, length, filter, Option, Some, None}
 use Rattle.std.specs.Char.{is_ascii_digit}
 use Rattle.std.specs.Option.{option_map}
 use Rattle.uvl_lex.specs.declared.class.Class.{Class}
 use Rattle.uvl_lex.specs.declared.class.Class.TheVariants.{InLine, InName, Digit, Inside, Plain}
+use Rattle.uvl_lex.specs.declared.token.Keyword.{Keyword as Word}
 use Rattle.uvl_lex.specs.declared.token.Mark.{Mark as Sign}
 use Rattle.uvl_lex.specs.declared.token.Mark.TheVariants.{Iff, Then, Equal, Unequal, AtMost, AtLeast, Dots, Bang, Amp, Bar, OpenRound, CloseRound, OpenSquare, CloseSquare, OpenCurly, CloseCurly, Comma, Dot, Star, Plus, Minus, Slash, Less, Greater, Assign, Colon, Semicolon}
 use Rattle.uvl_lex.specs.Pieces.{is_blank, is_in_line, is_in_name, is_inside, starts_name, quote, apostrophe, dot}
 use Rattle.uvl_lex.specs.Places.{line_feed}
+use Rattle.uvl_lex.specs.Words.{spelling, keywords}
 
 -- what stands between double quotes and is no dot
 abbrev pub is_plain : ℕ → Bool
@@ -20,6 +22,13 @@ in_class InName c = is_in_name c
 in_class Digit c = is_ascii_digit c
 in_class (Inside mark) c = is_inside mark c
 in_class Plain c = is_plain c
+
+abbrev pub has_len : ℕ → Word → Bool
+has_len len word = length (spelling word) == len
+
+-- the reserved words of this many bytes
+unfoldable pub words_of_len : ℕ → List Word
+words_of_len len = filter (has_len len) keywords
 
 -- the mark that begins with the first character, by the next ones, and its length
 abbrev pub less_of : ℕ → ℕ → Sign × ℕ

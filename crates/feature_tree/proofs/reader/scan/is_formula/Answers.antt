@@ -1,9 +1,10 @@
 use Rattle.std.proofs.Common.{◌≡◌, ◌<◌, ap, true, false, arith}
+use Rattle.std.proofs.lemmas.Bool.{not-true, not-false}
 use Rattle.std.proofs.lemmas.Bool.Decides.{nat_tests}
 use Rattle.std.proofs.lemmas.List.{drop_all}
 use Rattle.std.proofs.lemmas.Grind.{common_steps}
 use Rattle.feature_tree.specs.Roles.{roles_of}
-use Rattle.feature_tree.proofs.Scanning.{scan, scan-next, at_end-yes, at_end-wants, at_end-open, no_formula, not-true, not-false}
+use Rattle.feature_tree.proofs.Scanning.{scan, scan-next, at_end-yes, at_end-wants, at_end-open, no_formula}
 use Rattle.feature_tree.proofs.reader.scan.is_formula.Goals as goal
 
 pub returns-in-None-clause-no : goal.returns-in-None-clause-no
@@ -15,7 +16,7 @@ pub returns-then-not-stage-clause-yes : goal.returns-then-not-stage-clause-yes
 returns-then-not-stage-clause-yes c = λ is_zero.
     let ends = ap roles_of (drop_all c.loop-token.token-index c.args.tokens.now c.loop-token-test.false) in
     let none : c.loop-token.stage.depth ≡ 0 = grind (arith, nat_tests) in
-    at_end-yes _ _ c.loop-token.stage.wants_operand c.loop-token.stage.depth c.loop-token.invariant.rest ends (not-true c.if-not-stage.true) none
+    at_end-yes _ _ c.loop-token.stage.wants_operand c.loop-token.stage.depth c.loop-token.invariant.rest ends (not-true _ c.if-not-stage.true) none
 
 pub returns-then-not-stage-clause-no : goal.returns-then-not-stage-clause-no
 returns-then-not-stage-clause-no c = λ is_not has.
@@ -26,4 +27,4 @@ returns-then-not-stage-clause-no c = λ is_not has.
 pub returns-else-not-stage-clause-no : goal.returns-else-not-stage-clause-no
 returns-else-not-stage-clause-no c = λ _ has.
     let ends = ap roles_of (drop_all c.loop-token.token-index c.args.tokens.now c.loop-token-test.false) in
-    no_formula (roles_of c.args.tokens.now) (at_end-wants (roles_of c.args.tokens.now) _ c.loop-token.stage.wants_operand c.loop-token.stage.depth c.loop-token.invariant.rest ends (not-false c.if-not-stage.false)) has
+    no_formula (roles_of c.args.tokens.now) (at_end-wants (roles_of c.args.tokens.now) _ c.loop-token.stage.wants_operand c.loop-token.stage.depth c.loop-token.invariant.rest ends (not-false _ c.if-not-stage.false)) has

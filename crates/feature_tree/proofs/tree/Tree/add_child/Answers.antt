@@ -1,8 +1,9 @@
 use Rattle.std.proofs.Common.{◌≡◌, ◌<◌, ◌∙◌, refl, ap, sym, subst, length, List, [], ◌∷◌, ◌++◌}
+use Rattle.std.proofs.lemmas.Result.{on_ok_weaker}
 use Rattle.feature_tree.specs.declared.feature.Feature.{Feature}
 use Rattle.feature_tree.specs.WellFormed.{feature_names, groups_of, IsTree}
 use Rattle.feature_tree.specs.Growing.{with_child, with_last_child, IsNewName}
-use Rattle.feature_tree.proofs.Changes.{OnOk-then, after_either}
+use Rattle.feature_tree.proofs.Changes.{after_either}
 use Rattle.feature_tree.proofs.Trees.{names-grown, IsTree-with_child}
 use Rattle.feature_tree.proofs.tree.Tree.add_child.Goals as goal
 
@@ -20,7 +21,7 @@ invariant_of-self c =
 pub returns-clause-names : goal.returns-clause-names
 returns-clause-names c =
     let before : List Feature = c.self.inside.features in
-    OnOk-then c.push_child.result (c.push_child.new.features ≡ with_child before c.args.parent c.args.name) _
+    on_ok_weaker {P = c.push_child.new.features ≡ with_child before c.args.parent c.args.name} c.push_child.result
     (λ ok. ap feature_names ok
     ∙ names-grown (with_last_child (length before)) (λ feature. refl) before c.args.parent c.args.name
     ∙ ap (λ features. feature_names features ++ c.args.name ∷ []) c.self.view_is)

@@ -1,9 +1,10 @@
 use Rattle.std.proofs.Common.{◌≡◌, ◌<◌, ◌∙◌, refl, ap, ℕ, sym, subst, length, List, [], ◌∷◌, ◌++◌}
+use Rattle.std.proofs.lemmas.Result.{on_ok_weaker}
 use Rattle.feature_tree.specs.declared.group.Group.{Group}
 use Rattle.feature_tree.specs.declared.feature.Feature.{Feature}
 use Rattle.feature_tree.specs.WellFormed.{feature_names, IsTree}
 use Rattle.feature_tree.specs.Growing.{with_group, with_last_group, IsNewName}
-use Rattle.feature_tree.proofs.Changes.{OnOk-then, after_either}
+use Rattle.feature_tree.proofs.Changes.{after_either}
 use Rattle.feature_tree.proofs.Trees.{grown, names-grown, IsTree-with_group}
 use Rattle.feature_tree.proofs.tree.Tree.add_group.Goals as goal
 
@@ -28,7 +29,7 @@ pub returns-clause-names : goal.returns-clause-names
 returns-clause-names c =
     let before : List Feature = c.self.inside.features in
     let group : Group = record { kind = c.args.kind; low = c.args.low; high = c.args.high; children = c.push.new.self } in
-    OnOk-then c.push_group.result (c.push_group.new.features ≡ grown (with_last_group group) before c.args.parent c.args.name) _
+    on_ok_weaker {P = c.push_group.new.features ≡ grown (with_last_group group) before c.args.parent c.args.name} c.push_group.result
     (λ ok. ap feature_names ok
     ∙ names-grown (with_last_group group) (λ feature. refl) before c.args.parent c.args.name
     ∙ ap (λ features. feature_names features ++ c.args.name ∷ []) c.self.view_is)

@@ -11,7 +11,7 @@ returns-in-Blank-clause-ok c = λ ps. past_quiet c.args.self.now c.args.what c.a
 pub returns-in_ok-end_line-in-LineEnd-clause-ok : goal.returns-in_ok-end_line-in-LineEnd-clause-ok
 returns-in_ok-end_line-in-LineEnd-clause-ok c = λ ps.
     rw c.in-LineEnd.is (past_line_end c.args.self.now c.end_line.new.self c.args.from c.args.upto ps (c.is_empty.ensures.0 c.if-is_empty.true)
-    c.in_ok-end_line-in-LineEnd.ensures.lines c.in_ok-end_line-in-LineEnd.ensures.current c.in_ok-end_line-in-LineEnd.ensures.brackets)
+    c.in_ok-end_line-in-LineEnd.ensures.lines c.in_ok-end_line-in-LineEnd.ensures.none c.in_ok-end_line-in-LineEnd.ensures.brackets)
 
 pub returns-else-is_empty-clause-ok : goal.returns-else-is_empty-clause-ok
 returns-else-is_empty-clause-ok c = λ ps.
