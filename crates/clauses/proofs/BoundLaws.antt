@@ -9,7 +9,7 @@ use Rattle.clauses.specs.Clause.{positive_of}
 use Rattle.clauses.specs.Closure.{closure, clash}
 use Rattle.clauses.specs.Search.{Limit, Standing, Turn, GoesOn, Ends, under, all_false, some_true, needed_decisions, cut_after, turn, start, standing_after, answer_within, NameTheSame, NameOthers}
 use Rattle.lists.proofs.Members.{none, first, later, first_or_later, from_map, to_map}
-use Rattle.lists.proofs.RangeMembers.{range-below}
+use Rattle.lists.proofs.Ranges.{range-below}
 use Rattle.clauses.proofs.TurnLaws.{IsTurn, answers, decides, refutes, gives_up, adds_clause, turn_is, reached, ended}
 use Rattle.clauses.proofs.EnoughLaws.{among, among-from, from_among, open-parts}
 use Rattle.clauses.proofs.TrimmedLaws.{trimmed-within}

@@ -10,7 +10,7 @@ use Rattle.clauses.specs.Closure.{closure, clash, is_refuted}
 use Rattle.clauses.specs.Search.{Sat, Standing, Turn, Ends, under, all_false as false_units, open_variables, values_of, turn, answer_within, start}
 use Rattle.clauses.proofs.TurnLaws.{IsTurn, answers, decides, refutes, gives_up, adds_clause, turn_is, ended}
 use Rattle.lists.proofs.Members.{none, any_from, any_none, all_from, all_false, to_filter}
-use Rattle.lists.proofs.RangeMembers.{range-has}
+use Rattle.lists.proofs.Ranges.{range-has}
 
 value_at : (f : ℕ → Bool) (a n k : ℕ) (d : Bool) → k < n → get_or (map f (range_with_len a n)) k d ≡ f (a + k)
 value_at f a zero k d l = absurd (omega arith)

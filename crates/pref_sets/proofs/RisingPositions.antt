@@ -9,7 +9,7 @@ use Rattle.req_keys.specs.Positions.{RiseWithin}
 use Rattle.req_keys.proofs.PositionsLaws.{RiseWithin-range}
 use Rattle.req_keys.proofs.Rises.{members-within}
 use Rattle.lists.proofs.Members.{first as contains_first, later as contains_later}
-use Rattle.lists.proofs.RangeParts.{range-append, take-range, drop-range}
+use Rattle.lists.proofs.Ranges.{range-append, take-range, drop-range}
 
 pub Ascends-from_rises : (low high : ℕ) (xs : List ℕ) → RiseWithin low high xs → Ascends xs
 Ascends-from_rises low high [] h = tt

@@ -10,7 +10,7 @@ use Rattle.std.proofs.lemmas.List.Elements.{All-cons, All-head, All-tail, All-co
 use Rattle.lists.specs.Distinct.{IsDistinct}
 use Rattle.lists.proofs.Distinct.{distinct-push}
 use Rattle.lists.proofs.Members.{first, later, from_map, to_map}
-use Rattle.lists.proofs.RangeMembers.{range-has}
+use Rattle.lists.proofs.Ranges.{range-has}
 use Rattle.clauses.specs.declared.literal.Lit.{Lit}
 use Rattle.clauses.specs.Clause.{negation, unit_of}
 use Rattle.clauses.specs.Closure.{closure, clash}

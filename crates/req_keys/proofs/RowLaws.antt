@@ -13,7 +13,7 @@ use Rattle.std.proofs.Math.Bool.{or-true, or-false}
 use Rattle.std.proofs.lemmas.Bool.{cases_eq, cases_lt, cases_Bool, eq-eqb, ne_eqb, eqb-true, false≢true, true≢false, lt-ltb, le-ltb, le-leb, lt-leb, and_parts}
 use Rattle.req_keys.specs.Words.{bit_of, bits_where, word_count}
 use Rattle.req_keys.proofs.WordLaws.{bits_where-zero, bits_where-push, bits_where-lt, bit_at-bits_where, cond-mul, place}
-use Rattle.lists.proofs.RangeParts.{range-append}
+use Rattle.lists.proofs.Ranges.{range-append}
 use Rattle.req_keys.specs.Positions.{positions_where}
 use Rattle.req_keys.specs.inside.Rows.{IsRow, HasBits, AreSame, AreWithin, AreApart, IsInSecond, IsInSecondWord, positions_to, AreDone}
 use Rattle.req_keys.proofs.PositionsLaws.{filter-range_push, filter-range_agree, filter-range_none}

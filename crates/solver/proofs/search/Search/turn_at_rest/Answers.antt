@@ -1,7 +1,7 @@
 use Rattle.clauses.specs.Closure.{closure}
 use Rattle.clauses.proofs.EnoughLaws.{open-parts, open-new}
 use Rattle.solver.specs.inside.Searching.{Searching, standing, clauses_of, all_under}
-use Rattle.lists.proofs.RangeMembers.{range-below}
+use Rattle.lists.proofs.Ranges.{range-below}
 use Rattle.solver.proofs.search.Search.turn_at_rest.Goals as goal
 
 pub decide-requires-clause-variable : goal.decide-requires-clause-variable
