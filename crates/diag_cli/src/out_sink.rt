@@ -24,7 +24,7 @@ impl<W: Write> Sink for OutSink<W> {
 
     ghost faults = { λ sink. sink.faults };
 
-    // A write that takes nothing of a piece that isn't empty is a fault.
+    /// A write that takes nothing of a piece that isn't empty is a fault.
     fn put(&mut self, bytes: &[u8]) -> Result<(), PutFailed>
         ensures { Counts self.old.faults self.new.faults result }
     {

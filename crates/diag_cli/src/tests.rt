@@ -1,3 +1,4 @@
+//! The two adapters, on real files and a writer of four bytes.
 use crate::file_shelf::FileShelf;
 use crate::out_sink::OutSink;
 use diag_base::{FetchError, Fetched, PutFailed, Shelf, Sink};

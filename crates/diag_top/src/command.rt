@@ -1,3 +1,4 @@
+//! What a command line asks for.
 ghost use Rattle.std.specs.Prelude.{◌≡◌, map, IfSome, IfNone, option_map};
 ghost use Rattle.std.specs.String.{string_bytes};
 ghost use Rattle.diag_top.specs.Words.{Request, Says, names_a_file, request_of};
@@ -40,7 +41,7 @@ pub fn read_words<'a>(words: &'a [String]) -> Option<Command<'a>>
     command_of(words)
 }
 
-// The command of three words, if they are in the grammar.
+/// The command of three words, if they are in the grammar.
 fn command_of<'a>(words: &'a [String]) -> Option<Command<'a>>
     ensures { request_of (map string_bytes words.now) ≡ option_map request result }
 {
@@ -53,7 +54,7 @@ fn command_of<'a>(words: &'a [String]) -> Option<Command<'a>>
     }
 }
 
-// A file name is any word that isn't empty and doesn't begin with '-'.
+/// A file name is any word that isn't empty and doesn't begin with '-'.
 fn is_file_name(word: &String) -> bool
     ensures { result ≡ names_a_file (string_bytes word.now) }
 {

@@ -1,3 +1,4 @@
+//! Fetching and reading the two files.
 ghost use Rattle.std.specs.Prelude.{◌≡◌, ◌≤◌, IfOk, IfSome, Ok, option_map, All, length};
 ghost use Rattle.feature_tree.specs.Names.{NamesBelow};
 ghost use Rattle.diag_base.specs.Faults.{Rises};
@@ -70,7 +71,7 @@ pub fn fetch_config<F: Shelf>(
     }
 }
 
-// The requirements that the bytes of a configuration are.
+/// The requirements that the bytes of a configuration are.
 fn config_in(
     alloc: Global,
     model: &Model,

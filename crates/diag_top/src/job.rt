@@ -1,3 +1,4 @@
+//! Deciding what can be met together, by trying every set of features.
 ghost use Rattle.std.specs.Prelude.{◌≡◌, ℕ, ◌+◌, ◌-◌, ◌^◌, ◌<◌, ◌≤◌, ◌++◌, ◌&&◌, List, Bool, length, map, take, All, IfOk};
 ghost use Rattle.std.specs.List.{list_all, list_any};
 ghost use Rattle.feature_tree.specs.Truth.{truth};
@@ -43,7 +44,7 @@ pub fn diagnosed(
     Ok(Outcome::Explained(kept))
 }
 
-// From the most important requirement on, each joins that can be met together with those that joined before.
+/// From the most important requirement on, each joins that can be met together with those that joined before.
 fn preferred_relaxation(
     alloc: Global,
     model: &Model,
@@ -66,7 +67,7 @@ fn preferred_relaxation(
     Ok(kept)
 }
 
-// Whether some product of the model makes all these formulas true.
+/// Whether some product of the model makes all these formulas true.
 fn are_consistent(alloc: Global, model: &Model, formulas: &[&Formula]) -> Result<bool, AllocError>
     requires { All (λ formula. NamesBelow (length model.now.features) formula.now) formulas.now }
     ensures { IfOk result (λ answer. answer ≡ is_consistent model.now (map (λ formula. formula.now) formulas.now)) }
@@ -75,7 +76,7 @@ fn are_consistent(alloc: Global, model: &Model, formulas: &[&Formula]) -> Result
     Ok(some_product(model, formulas, set.as_mut_slice(), 0))
 }
 
-// Whether some product has the features that were decided, those before `decided`, and makes the formulas true.
+/// Whether some product has the features that were decided, those before `decided`, and makes the formulas true.
 fn some_product(model: &Model, formulas: &[&Formula], set: &mut [bool], decided: usize) -> bool
     requires within { decided ≤ length set.old }
     requires sized { length set.old ≡ length model.now.features }
@@ -94,7 +95,7 @@ fn some_product(model: &Model, formulas: &[&Formula], set: &mut [bool], decided:
     some_product(model, formulas, set, decided + 1)
 }
 
-// Whether the set is a product that makes the formulas true.
+/// Whether the set is a product that makes the formulas true.
 fn is_met(model: &Model, formulas: &[&Formula], set: &[bool]) -> bool
     requires sized { length set.now ≡ length model.now.features }
     requires named { All (λ formula. NamesBelow (length set.now) formula.now) formulas.now }

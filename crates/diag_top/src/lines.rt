@@ -1,3 +1,4 @@
+//! The lines of a text.
 ghost use Rattle.std.specs.Prelude.{◌≡◌, map, IfOk, IfSome, IfNone, None, Some, option_map, position, ◌==◌};
 ghost use Rattle.diag_top.specs.Lines.{lines_of};
 
@@ -23,7 +24,7 @@ pub fn lines<'a>(alloc: Global, text: &'a [u8]) -> Result<Option<Vec<&'a [u8]>>,
     Ok(Some(lines))
 }
 
-// Where the first line of a text ends.
+/// Where the first line of a text ends.
 fn line_end(text: &[u8]) -> Option<usize>
     ensures { result ≡ position (λ byte. byte == 10) text.now }
 {

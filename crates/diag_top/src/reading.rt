@@ -1,3 +1,4 @@
+//! A thin model as it is read, line by line.
 ghost use Rattle.std.specs.Prelude.{◌≡◌, ℕ, ◌+◌, ◌-◌, ◌<◌, ◌≤◌, true, [], length, Some, None, IfOk, option_map, slice_index};
 ghost use Rattle.feature_tree.specs.WellFormed.{groups_of};
 ghost use Rattle.feature_tree.specs.Growing.{with_group, with_child};
@@ -58,7 +59,7 @@ impl Reading {
         }
     }
 
-    // A group line for the feature of this depth in the path.
+    /// A group line for the feature of this depth in the path.
     fn with_group(self, depth: usize, kind: GroupKind) -> Option<Reading>
         ensures { option_map so_far result ≡ group_line (so_far self) depth (Some kind) }
     {
@@ -98,7 +99,7 @@ impl Reading {
         }
     }
 
-    // The first child of a new group of the last feature.
+    /// The first child of a new group of the last feature.
     fn with_first_child(
         self,
         alloc: Global,
@@ -128,7 +129,7 @@ impl Reading {
         })
     }
 
-    // One more child in the last group of a feature of the path.
+    /// One more child in the last group of a feature of the path.
     fn with_child(self, alloc: Global, depth: usize, name: &[u8]) -> Result<Reading, AllocError>
         requires free { is_free self.tree name.now ≡ true }
         requires below { 0 < depth }

@@ -1,3 +1,4 @@
+//! The report.
 ghost use Rattle.std.specs.Prelude.{◌≡◌, ◌+◌, ◌^◌, ◌<◌, ◌++◌, length, IfOk, OnOk, ◌==◌};
 ghost use Rattle.diag_top.specs.Report.{report, requirement_line, given_up, diagnosis_lines, model_line, requirements_line, result_line, finding_lines};
 ghost use Rattle.diag_top.specs.Requirements.{texts_of};
@@ -47,7 +48,7 @@ fn push_requirements_line(alloc: Global, text: &mut Bytes, count: usize) -> Resu
     text.extend_from_slice(line.as_str().as_bytes())
 }
 
-// Appends the result and what belongs to it.
+/// Appends the result and what belongs to it.
 fn push_findings(
     alloc: Global,
     text: &mut Bytes,
@@ -68,7 +69,7 @@ fn push_findings(
     }
 }
 
-// Appends what the preferred diagnosis gives up.
+/// Appends what the preferred diagnosis gives up.
 fn push_diagnosis(
     alloc: Global,
     text: &mut Bytes,

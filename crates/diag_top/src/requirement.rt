@@ -1,3 +1,4 @@
+//! A requirement of a thin configuration.
 use feature_tree::{Formula, Text};
 
 /// What a configuration asks of a product.

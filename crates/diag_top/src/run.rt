@@ -1,3 +1,4 @@
+//! The top call: the order of work, and what each fault comes to.
 ghost use Rattle.std.specs.Prelude.{◌≡◌, ◌≢◌, ◌⊎◌, ◌↔◌, ℕ, ◌≤◌, ◌++◌, List, [], length, All, map, IfOk, IfSome, IsSome, Some, None};
 ghost use Rattle.std.specs.String.{string_bytes};
 ghost use Rattle.diag_base.specs.Faults.{Rises};
@@ -64,7 +65,7 @@ struct Reply {
 }
 
 impl Reply {
-    // A status with a fixed text.
+    /// A status with a fixed text.
     fn of(alloc: Global, status: Status, text: &[u8]) -> Result<Reply, AllocError>
         ensures { IfOk result (λ reply. reply ≡ record { status = status; text = text.now }) }
     {
@@ -73,7 +74,7 @@ impl Reply {
     }
 }
 
-// What is to be answered to the words.
+/// What is to be answered to the words.
 fn reply_to<F: Shelf>(alloc: Global, words: &[String], shelf: &mut F) -> Result<Reply, AllocError>
     ensures told { IfOk result (λ reply. IfSome (F.files shelf.old) (λ files. IsReply (map string_bytes words.now) files (F.lost shelf.new) reply.status reply.text)) }
     ensures words { IfOk result (λ reply. (reply.status ≡ BadWords) ↔ (request_of (map string_bytes words.now) ≡ None)) }
@@ -90,7 +91,7 @@ fn reply_to<F: Shelf>(alloc: Global, words: &[String], shelf: &mut F) -> Result<
     }
 }
 
-// What is to be answered to the two names.
+/// What is to be answered to the two names.
 fn reply_to_diagnose<F: Shelf>(
     alloc: Global,
     shelf: &mut F,
@@ -110,7 +111,7 @@ fn reply_to_diagnose<F: Shelf>(
     }
 }
 
-// What is to be answered once the model is read.
+/// What is to be answered once the model is read.
 fn reply_with_model<F: Shelf>(
     alloc: Global,
     shelf: &mut F,
@@ -133,7 +134,7 @@ fn reply_with_model<F: Shelf>(
     }
 }
 
-// The report on the requirements, and the status of the outcome.
+/// The report on the requirements, and the status of the outcome.
 fn reply_with_report(
     alloc: Global,
     model: &Model,

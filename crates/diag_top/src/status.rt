@@ -1,3 +1,4 @@
+//! How a run ends.
 ghost use Rattle.std.specs.Prelude.{◌≡◌};
 
 /// How a run ended.

@@ -1,3 +1,4 @@
+//! Whole runs over a shelf and a sink in memory.
 use super::*;
 use diag_base::{Bytes, MemShelf, MemSink};
 use std::alloc::{AllocError, Global};
@@ -20,7 +21,7 @@ fn words_of(alloc: Global, words: &[&str]) -> Result<Vec<String>, AllocError> {
     Ok(all)
 }
 
-// The status and what is written for a model and a configuration.
+/// The status and what is written for a model and a configuration.
 fn diagnosed(
     alloc: Global,
     model: &[u8],

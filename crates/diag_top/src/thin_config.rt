@@ -1,3 +1,4 @@
+//! Thin configurations: wanted and unwanted features.
 ghost use Rattle.std.specs.Prelude.{◌≡◌, ◌≤◌, ◌<◌, length, map, All, Some, IfOk, IfSome, option_map};
 ghost use Rattle.feature_tree.specs.Names.{NamesBelow};
 ghost use Rattle.diag_top.specs.Requirements.{formulas_of};
@@ -8,7 +9,7 @@ use crate::requirement::Requirement;
 use feature_tree::{Boxed, Feature, Formula, Text};
 use std::alloc::{AllocError, Global};
 
-// How many lines a thin configuration may have.
+/// How many lines a thin configuration may have.
 const MOST_LINES: usize = 16;
 
 /// The requirements of a thin configuration of these features, or nothing.
@@ -66,7 +67,7 @@ fn requirement(
     }
 }
 
-// The requirement that the feature with this name is held.
+/// The requirement that the feature with this name is held.
 fn wanted(
     alloc: Global,
     features: &[Feature],
@@ -86,7 +87,7 @@ fn wanted(
     }
 }
 
-// The requirement that the feature with this name isn't held.
+/// The requirement that the feature with this name isn't held.
 fn unwanted(
     alloc: Global,
     features: &[Feature],
@@ -108,7 +109,7 @@ fn unwanted(
     }
 }
 
-// The number of the feature with this name.
+/// The number of the feature with this name.
 fn number_of(features: &[Feature], name: &[u8]) -> Option<u32>
     requires { length features.now ≤ 65535 }
     ensures found { result ≡ number_of features.now name.now }

@@ -1,3 +1,4 @@
+//! Thin models: a tree of mandatory and optional features.
 ghost use Rattle.std.specs.Prelude.{◌≡◌, map, IfOk};
 ghost use Rattle.std.specs.Option.{option_and_then};
 ghost use Rattle.diag_top.specs.ThinModel.{thin_model, model_of_lines, with_lines, finished};
@@ -32,7 +33,7 @@ fn model_of(alloc: Global, lines: &[&[u8]]) -> Result<Option<Model>, AllocError>
     }
 }
 
-// The model of what was read so far and of the lines after it.
+/// The model of what was read so far and of the lines after it.
 fn model_from(alloc: Global, start: Reading, lines: &[&[u8]]) -> Result<Option<Model>, AllocError>
     ensures { IfOk result (λ model. model ≡ option_and_then (λ last. finished last last.waiting) (with_lines (so_far start) (map (λ line. line.now) lines.now))) }
 {

@@ -1,3 +1,4 @@
+//! Words of the two thin forms.
 ghost use Rattle.std.specs.Prelude.{◌≡◌, ◌≤◌, length, ◌||◌};
 ghost use Rattle.std.specs.List.{list_all, list_any};
 ghost use Rattle.std.specs.Str.{bytes_eq};
@@ -5,7 +6,7 @@ ghost use Rattle.diag_top.specs.ThinModel.{tabs_of, is_letter, is_digit, is_keyw
 
 use feature_tree::{Feature, GroupKind};
 
-// The words that are no names.
+/// The words that are no names.
 const KEYWORDS: [&str; 16] = [
     "namespace",
     "include",

@@ -1,10 +1,11 @@
+//! Putting a text into a sink, piece by piece.
 ghost use Rattle.std.specs.Prelude.{◌≤◌, OnOk, OnErr};
 ghost use Rattle.diag_base.specs.Faults.{Rises};
 ghost use Rattle.diag_base.specs.Sink.{Gains, GainsPart};
 
 use diag_base::{PutFailed, Sink};
 
-// How many bytes a piece has; the last may have fewer.
+/// How many bytes a piece has; the last may have fewer.
 const PIECE: usize = 4096;
 
 /// Puts a whole text into the sink, piece by piece. After a failure the sink has a prefix of it.

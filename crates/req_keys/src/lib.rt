@@ -1,7 +1,7 @@
-// Sets of requirement positions, and the words that every layer above speaks in. `Key` is the set: contracts see
-// the number n of requirements and the members, an ascending list within 1..=n, however a key is kept. Layers above
-// may rely on keys that are equal exactly where n and members are, on `Ord` as the order of diagnoses, and on the
-// reading calls taking no memory.
+//! Sets of requirement positions, and the words that every layer above speaks in. `Key` is the set: contracts see
+//! the number n of requirements and the members, an ascending list within 1..=n, however a key is kept. Layers above
+//! may rely on keys that are equal exactly where n and members are, on `Ord` as the order of diagnoses, and on the
+//! reading calls taking no memory.
 #![tactic(auto)]
 
 mod key;

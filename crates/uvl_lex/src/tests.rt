@@ -4,8 +4,8 @@ use std::alloc::Global;
 use std::fmt::Write;
 use std::test::Fail;
 
-// Texts and their reading: each line as `number:indent` and its tokens as `kind start-end@line`, or the
-// refusal's line and reason. The values were worked out by hand from the rules of the format.
+/// Texts and their reading: each line as `number:indent` and its tokens as `kind start-end@line`, or the
+/// refusal's line and reason. The values were worked out by hand from the rules of the format.
 const READINGS: [(&[u8], &str); 44] = [
     (b"", ""),
     (

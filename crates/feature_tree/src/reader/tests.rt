@@ -5,8 +5,8 @@ use super::*;
 use std::test::Fail;
 use uvl_lex::{LexError, Mark, TokenKind, logical_lines};
 
-// A text, and the formula of its tokens with the number of its token for each name, or the refusal. What each list of
-// tokens stands for is in the worked examples of `specs/FormulaAnswerExamples.antt`; these go through the lexer too.
+/// A text, and the formula of its tokens with the number of its token for each name, or the refusal. What each list of
+/// tokens stands for is in the worked examples of `specs/FormulaAnswerExamples.antt`; these go through the lexer too.
 const FORMULAS: [(&[u8], &str); 14] = [
     (b"A", "0"),
     (b"\"A b\"", "0"),
@@ -30,7 +30,7 @@ fn is_short(tokens: &[Token]) -> bool
     tokens.len() < 4_294_967_296
 }
 
-// The formula or the refusal that the first line of the text gives.
+/// The formula or the refusal that the first line of the text gives.
 fn shown(alloc: Global, bytes: &[u8]) -> Result<String, Fail> {
     let mut out = String::new(alloc);
     if bytes.len() > 16_777_216 {
@@ -111,7 +111,7 @@ fn reads_formulas(rt: HostRuntime) -> Result<(), Fail> {
     Ok(())
 }
 
-// The role that a letter stands for in the lists below: `>` is `=>`, and `1` a number.
+/// The role that a letter stands for in the lists below: `>` is `=>`, and `1` a number.
 fn token_of(letter: u8) -> Token {
     let kind = match letter {
         b'!' => TokenKind::Mark(Mark::Bang),
@@ -140,7 +140,7 @@ fn push_letters(tokens: &mut Vec<Token>, letters: &[u8], times: usize) -> Result
     Ok(())
 }
 
-// What is read of the middle between so many times the front and the back: a formula, or the refusal.
+/// What is read of the middle between so many times the front and the back: a formula, or the refusal.
 fn kind_of(
     alloc: Global,
     front: &[u8],
