@@ -6,12 +6,12 @@ root=$(cd "$(dirname "$0")/.." && pwd)
 work=$(mktemp -d)
 trap 'rm -rf "$work"' EXIT
 mkdir -p "$work/crates"
-for name in pref_sets req_keys clauses propagation solver; do
+for name in lists req_keys pref_sets clauses propagation solver; do
     cp -r "$root/crates/$name" "$work/crates/$name"
     rm -rf "$work/crates/$name/out"
 done
 {
-    grep -E '^(pref_sets|req_keys|clauses|propagation|solver):' "$root/crates.txt"
+    grep -E '^(lists|req_keys|pref_sets|clauses|propagation|solver):' "$root/crates.txt"
     echo 'search_bench: anyhow clauses req_keys solver'
 } > "$work/crates.txt"
 bench="$work/crates/search_bench"
