@@ -1,12 +1,12 @@
 -- What the rows of keys show.
-use Rattle.std.proofs.Common.{◌≡◌, ℕ, ◌+◌, ◌-◌, ◌*◌, ◌/◌, ◌%◌, ◌<◌, ◌≤◌, ◌↔◌, Bool, true, false, not, ◌&&◌, ◌||◌, ltb, leb, List, length, get_or, refl, sym, ◌∙◌, ap, inr, ⊎_elim, arith}
+use Rattle.std.proofs.Common.{◌≡◌, ℕ, ◌+◌, ◌-◌, ◌*◌, ◌/◌, ◌%◌, ◌<◌, ◌≤◌, ◌↔◌, Bool, true, false, not, ◌&&◌, ◌||◌, ltb, leb, List, length, get_or, refl, sym, ◌∙◌, ap, inr, ⊎_elim, arith, subst}
 use Rattle.std.specs.Prelude.{Contains, IsTrue, ◌==◌}
 use Rattle.std.specs.List.{range_with_len, list_all}
 use Rattle.std.proofs.lemmas.Bool.{cases_eq, cases_lt, cases_Bool, eq-eqb, ne_eqb, true≢false, lt-ltb, le-ltb, lt-leb, le-leb, not-true, false_from_ne_true}
 use Rattle.std.proofs.lemmas.List.FromFn.{get_or-range_with_len, length-range_with_len}
 use Rattle.std.proofs.lemmas.List.{get_or_past}
 use Rattle.lists.proofs.Members.{all_at, all_from}
-use Rattle.req_keys.specs.Key.{IsKey}
+use Rattle.req_keys.specs.Key.{PositionSet, IsKey}
 use Rattle.req_keys.specs.Positions.{RiseWithin, has, positions_where}
 use Rattle.req_keys.specs.Words.{bit_of, word_count, key_of_words}
 use Rattle.req_keys.specs.inside.Rows.{IsRow, HasBits, AreSame, AreWithin, AreApart, IsInSecond, SaysOrder}
@@ -46,6 +46,22 @@ has-shown_zero n words p e = has-low 0 n (shown n words) p (shown-rise n words) 
 
 pub has-shown_past : (n : ℕ) (words : List ℕ) (p : ℕ) → n < p → has (shown n words) p ≡ false
 has-shown_past n words p l = has-high 0 n (shown n words) p (shown-rise n words) l
+
+-- ---- two keys over the same positions, by the rows that they are kept as
+
+pub view_n : (n : ℕ) (words : List ℕ) (key : PositionSet) → key_of_words n words ≡ key → n ≡ key.n
+view_n n words key e = let number : PositionSet → ℕ = λ k. k.n in ap number e
+
+pub same_n : (n m : ℕ) (first second : List ℕ) (a b : PositionSet) → key_of_words n first ≡ a → key_of_words m second ≡ b → a.n ≡ b.n → m ≡ n
+same_n n m first second a b e f same = view_n m second b f ∙ sym same ∙ sym (view_n n first a e)
+
+pub row_over : (n m : ℕ) (second : List ℕ) → m ≡ n → IsRow m second → IsRow n second
+row_over n m second e is = subst (λ k. IsRow k second) e is
+
+-- the slices of both rows have as many words
+pub same_length : (n m : ℕ) (first second one two : List ℕ) → one ≡ first → two ≡ second → m ≡ n → IsRow n first → IsRow m second → length one ≡ length two
+same_length n m first second one two e f same is_first is_second =
+    ap length e ∙ is_first.over.0 ∙ sym (ap word_count same) ∙ sym is_second.over.0 ∙ sym (ap length f)
 
 -- ---- a range
 

@@ -1,22 +1,19 @@
-use Rattle.std.proofs.Common.{◌≡◌, ◌∙◌, ℕ, List, ap, sym, subst}
+use Rattle.std.proofs.Common.{◌≡◌, ℕ, List, ap}
 use Rattle.req_keys.specs.inside.Rows.{IsRow}
 use Rattle.req_keys.specs.Key.{PositionSet}
-use Rattle.req_keys.proofs.KeyRowLaws.{union-row, union-shown}
+use Rattle.req_keys.proofs.KeyRowLaws.{same_n, row_over, same_length, union-row, union-shown}
 use Rattle.req_keys.proofs.key.Key.union.Goals as goal
 
 pub united-requires : goal.united-requires
 united-requires c =
-    let number : PositionSet → ℕ = λ key. key.n in
-    let one : c.other.inside.n ≡ c.self.inside.n = ap number c.other.view_is ∙ sym c.requires ∙ sym (ap number c.self.view_is) in
-    rw (c.deref.ensures.value, c.deref-2.ensures.value) (c.self.invariant.over.0 ∙ sym (rw one at c.other.invariant.over.0))
+    same_length _ _ c.self.inside.words.items c.other.inside.words.items _ _ c.deref.ensures.value c.deref-2.ensures.value
+    (same_n _ _ c.self.inside.words.items c.other.inside.words.items _ _ c.self.view_is c.other.view_is c.requires) c.self.invariant c.other.invariant
 
-same_n : (c : goal.In_ok-words) → c.other.inside.n ≡ c.self.inside.n
-same_n c =
-    let number : PositionSet → ℕ = λ key. key.n in
-    ap number c.other.view_is ∙ sym c.requires ∙ sym (ap number c.self.view_is)
+one : (c : goal.In_ok-words) → c.other.inside.n ≡ c.self.inside.n
+one c = same_n _ _ c.self.inside.words.items c.other.inside.words.items _ _ c.self.view_is c.other.view_is c.requires
 
 is_other : (c : goal.In_ok-words) → IsRow c.self.inside.n c.other.inside.words.items
-is_other c = subst (λ m. IsRow m c.other.inside.words.items) (same_n c) c.other.invariant
+is_other c = row_over c.self.inside.n _ c.other.inside.words.items (one c) c.other.invariant
 
 pub invariant_of-result : goal.invariant_of-result
 invariant_of-result c =
@@ -26,6 +23,6 @@ invariant_of-result c =
 pub returns : goal.returns
 returns c =
     let P : List ℕ → PositionSet = λ t. record { n = c.self.inside.n; members = t } in
-    rw (← c.self.view_is, ← c.other.view_is, same_n c)
+    rw (← c.self.view_is, ← c.other.view_is, one c)
     (ap P (union-shown c.self.inside.n c.self.inside.words.items c.other.inside.words.items c.self.invariant (is_other c) c.in_ok-words.words.items
     (rw (c.deref.ensures.value, c.deref-2.ensures.value) at c.in_ok-words.ensures)))

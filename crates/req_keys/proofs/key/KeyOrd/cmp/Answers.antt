@@ -7,15 +7,12 @@ use Rattle.req_keys.specs.Key.{PositionSet}
 use Rattle.req_keys.specs.Words.{key_of_words}
 use Rattle.req_keys.specs.Order.{key_cmp}
 use Rattle.req_keys.proofs.OrderLaws.{counts-equal}
-use Rattle.req_keys.proofs.KeyRowLaws.{row_order, shown}
+use Rattle.req_keys.proofs.KeyRowLaws.{row_order, shown, view_n}
 use Rattle.req_keys.proofs.key.KeyOrd.cmp.Goals as goal
 
 -- what the two counts leave open: one n, and as many members
 left_open : (a b : PositionSet) (by_n by_count : Ordering) (na nb la lb : ℕ) → na ≡ a.n → nb ≡ b.n → by_n ≡ nat_cmp na nb → by_count ≡ nat_cmp la lb → la ≡ length a.members → lb ≡ length b.members → Equal ≡ ordering_then by_n by_count → (a.n ≡ b.n) × (length a.members ≡ length b.members)
 left_open a b by_n by_count na nb la lb e f g h k l o = counts-equal a b (rw (g, h, e, f, k, l) at o)
-
-view_n : (n : ℕ) (words : List ℕ) (key : PositionSet) → key_of_words n words ≡ key → n ≡ key.n
-view_n n words key e = let number : PositionSet → ℕ = λ k. k.n in ap number e
 
 pub compare-requires : goal.compare-requires
 compare-requires c =
