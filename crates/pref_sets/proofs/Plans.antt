@@ -1,5 +1,5 @@
 -- What a plan finds, which sets it asks and how many, told once for all recursions.
-use Rattle.std.proofs.Common.{eqb, ◌≡◌, ℕ, ◌+◌, ◌<◌, ◌≤◌, ◌-◌, Bool, true, false, Option, Some, None, List, [], ◌∷◌, ◌++◌, ◌⊎◌, refl, ◌∙◌, subst, inl, inr, ⊎_elim, arith}
+use Rattle.std.proofs.Common.{eqb, ◌≡◌, ℕ, ◌+◌, ◌<◌, ◌≤◌, ◌-◌, Bool, true, false, Option, Some, None, List, [], ◌∷◌, ◌++◌, ◌⊎◌, refl, sym, ◌∙◌, subst, inl, inr, ⊎_elim, arith}
 use Rattle.std.specs.Cmp.Lexicographic.{pointwise}
 use Rattle.std.proofs.lemmas.Bool.{cases_Bool}
 use Rattle.std.proofs.lemmas.Slice.Eq.{bytes_eq-Decides}
@@ -126,6 +126,14 @@ answer_to-beyond (answer ∷ table) more set e =
 
 pub answer_to-first : (answer : Answer) (more : List Answer) → answer_to (answer ∷ more) answer.set ≡ Some answer.sat
 answer_to-first answer more = rw ((bytes_eq-Decides answer.set answer.set).1 refl) refl
+
+-- an answer on another set doesn't matter
+pub answer_to-past : (answer : Answer) (table : List Answer) (set : List ℕ) → ¬ set ≡ answer.set → answer_to (answer ∷ table) set ≡ answer_to table set
+answer_to-past answer table set other =
+    ⊎_elim
+    (λ (same : pointwise eqb answer.set set ≡ true). absurd (other (sym ((bytes_eq-Decides answer.set set).0 same))))
+    (λ (differ : pointwise eqb answer.set set ≡ false). rw differ refl)
+    (cases_Bool (pointwise eqb answer.set set))
 
 -- what is found stays when more is told
 pub over-stays : (table more : List Answer) (plan : Plan) (set : List ℕ) → over table plan ≡ Done set → over (table ++ more) plan ≡ Done set

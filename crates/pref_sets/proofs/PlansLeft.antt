@@ -1,13 +1,10 @@
 -- Plans one after another, and what is left of a plan after told answers: a set is asked once, and what is left gives
 -- what the whole plan gives.
-use Rattle.std.proofs.Common.{◌≡◌, ℕ, Bool, None, List, [], ◌∷◌, ◌++◌, true, false, eqb, refl, sym, ◌∙◌, ap, subst, ⊎_elim, append_assoc}
-use Rattle.std.specs.Cmp.Lexicographic.{pointwise}
+use Rattle.std.proofs.Common.{◌≡◌, ℕ, Bool, None, List, [], ◌∷◌, ◌++◌, refl, sym, ◌∙◌, ap, subst, append_assoc}
 use Rattle.std.proofs.lemmas.List.{append-nil}
-use Rattle.std.proofs.lemmas.Bool.{cases_Bool}
-use Rattle.std.proofs.lemmas.Slice.Eq.{bytes_eq-Decides}
 use Rattle.pref_sets.specs.Answers.{Answer, Next, Ask, Done, answer_to, with_answer, told_in_turn}
 use Rattle.pref_sets.specs.Plan.{Plan, found, asks, over, chain, AsksOnly, AsksOnce, IsLeft}
-use Rattle.pref_sets.proofs.Plans.{AsksOnly-chain, over-known, answer_to-beyond, answer_to-first}
+use Rattle.pref_sets.proofs.Plans.{AsksOnly-chain, over-known, answer_to-beyond, answer_to-first, answer_to-past}
 use Rattle.pref_sets.proofs.ToldInTurn.{told-push}
 
 pub asks-same : (set : List ℕ) (f g : Bool → Plan) → ((sat : Bool) → f sat ≡ g sat) → asks set f ≡ asks set g
@@ -55,13 +52,6 @@ AsksOnce-chain A Q (asks set go) follow once h k apart = λ sat.
 pub left-start : (whole : Plan) → AsksOnce whole → IsLeft [] whole whole
 left-start whole once = record { same = λ more. refl; new = AsksOnly-any (λ set. answer_to [] set ≡ None) whole (λ set. refl); once = once }
 
-answer_to-other : (answer : Answer) (set : List ℕ) → ¬ set ≡ answer.set → answer_to (answer ∷ []) set ≡ None
-answer_to-other answer set other =
-    ⊎_elim
-    (λ (same : pointwise eqb answer.set set ≡ true). absurd (other (sym ((bytes_eq-Decides answer.set set).0 same))))
-    (λ (differ : pointwise eqb answer.set set ≡ false). rw differ refl)
-    (cases_Bool (pointwise eqb answer.set set))
-
 -- one more answer, on the set that is asked
 pub left-told : (told : List Answer) (whole : Plan) (set : List ℕ) (go : Bool → Plan) (sat : Bool) → IsLeft told whole (asks set go) → IsLeft (told ++ record { set = set; sat = sat } ∷ []) whole (go sat)
 left-told told whole set go sat h = record {
@@ -71,7 +61,7 @@ left-told told whole set go sat h = record {
       ∙ over-known (told ++ answer ∷ more) set go sat (answer_to-beyond told (answer ∷ more) set h.new.0 ∙ answer_to-first answer more));
   new =
       AsksOnly-weaker (λ other. (answer_to told other ≡ None) × (¬ other ≡ set)) (λ other. answer_to (told ++ answer ∷ []) other ≡ None) (λ kept. Unit {0}) (λ kept. Unit {0}) (go sat)
-      (λ other both. answer_to-beyond told (answer ∷ []) other both.0 ∙ answer_to-other answer other both.1)
+      (λ other both. answer_to-beyond told (answer ∷ []) other both.0 ∙ answer_to-past answer [] other both.1)
       (λ kept u. u)
       (AsksOnly-both (λ other. answer_to told other ≡ None) (λ other. ¬ other ≡ set) (λ kept. Unit {0}) (λ kept. Unit {0}) (go sat) (h.new.1 sat) (h.once sat).0);
   once = (h.once sat).1;

@@ -36,10 +36,12 @@ pub data Next : Type 0 where
   Ask : List ℕ → Next
   Done : List ℕ → Next
 
+-- a set is asked
 abbrev pub IsAsking : Next → Type 0
 IsAsking (Ask set) = Unit {0}
 IsAsking (Done found) = ⊥
 
+-- a set is found
 abbrev pub IsDone : Next → Type 0
 IsDone (Ask set) = ⊥
 IsDone (Done found) = Unit {0}

@@ -302,10 +302,12 @@ pub fn right_answers_agree<P: Property>()
         AgreesWith (P.holds about) (table ++ answer ∷ []) }
 {}
 
-/// Answers are told in turn one by one.
+/// Answers are told in turn one by one, and each set that has an answer then was asked.
 pub fn answers_in_turn()
     ensures none { (next : List Answer → Next) (start : List Answer) → IsToldInTurn next start [] }
     ensures one_more { (next : List Answer → Next) (start told : List Answer) (answer : Answer) →
         IsToldInTurn next start told → next (start ++ told) ≡ Ask answer.set →
         IsToldInTurn next start (told ++ answer ∷ []) }
+    ensures asked { (next : List Answer → Next) (told : List Answer) (set : List ℕ) (sat : Bool) →
+        IsToldInTurn next [] told → answer_to told set ≡ Some sat → (before : List Answer) × (next before ≡ Ask set) }
 {}

@@ -1,5 +1,5 @@
 //! A test of sets that holds a `&mut`, as a caller's may, and counts how often it is asked.
-ghost use Rattle.std.specs.Prelude.{◌≡◌, ◌↔◌, ◌⊎◌, ◌≤◌, ℕ, List, [], ◌∷◌, ◌++◌, length, true, None, All, Contains, IsTrue, IfOk};
+ghost use Rattle.std.specs.Prelude.{◌≡◌, ◌↔◌, ◌⊎◌, ◌≤◌, ℕ, List, [], ◌∷◌, ◌++◌, length, true, false, None, All, Contains, IsTrue, IfOk};
 ghost use Rattle.std.proofs.Common.{refl, sym, ◌∙◌, inl, inr, ⊎_elim};
 ghost use Rattle.std.proofs.lemmas.List.Elements.{All-weaker};
 ghost use Rattle.std.specs.List.Sorted.{IsStrictlyIncreasing};
@@ -12,8 +12,8 @@ ghost use Rattle.pref_sets.specs.Trimmed.{IsTrimmed};
 
 use crate::laws::{Property, kept_set_is_maximal, trimmed_set_is_minimal};
 use crate::recursions::{
-    fd_asks_new_sets, fd_behind_asks_new_sets, fd_behind_ends, fd_goes_by_places, fd_is_kept,
-    fd_over_more_answers, qx_asks_new_sets, qx_is_trimmed, qx_over_more_answers,
+    answers_in_turn, fd_asks_new_sets, fd_behind_asks_new_sets, fd_behind_ends, fd_goes_by_places,
+    fd_is_kept, fd_over_more_answers, qx_asks_new_sets, qx_is_trimmed, qx_over_more_answers,
     right_answers_agree,
 };
 use crate::trimming::{MonotoneTest, trim};
@@ -187,6 +187,17 @@ fn asks_beside_others()
     qx_over_more_answers();
     fd_asks_new_sets();
     qx_asks_new_sets();
+}
+
+/// FastDiag asks the same where the answers on all positions and on the empty set were told before its own.
+fn asks_after_the_first_two()
+    ensures { (positions asked : List ℕ) (told : List Answer) → IsStrictlyIncreasing positions →
+        IsToldInTurn (fd positions) [] told → fd positions told ≡ Ask asked →
+        fd positions (record { set = positions; sat = false } ∷ record { set = []; sat = true } ∷ told) ≡ Ask asked }
+{
+    answers_in_turn();
+    fd_over_more_answers();
+    fd_asks_new_sets();
 }
 
 /// FastDiag of the positions 3 and 5 behind 4: it asks 3 with 4 first, and at most two sets, each with 3 or 5.

@@ -26,6 +26,7 @@ part_within (suc count) kept before (suc (suc more)) known =
     (chain (part_within count kept before (suc (suc more) / 2) false) (λ lower.
     part_within count lower (before + suc (suc more) / 2) (suc (suc more) - suc (suc more) / 2) (length lower == length kept + suc (suc more) / 2)))
 
+-- the same, deep enough
 abbrev pub part_plan : List ℕ → ℕ → ℕ → Bool → Plan
 part_plan kept before size known = part_within size kept before size known
 
@@ -44,6 +45,7 @@ with_waiting kept before size known halves =
 abbrev pub left_of : Asking → Plan
 left_of asking = with_waiting asking.kept.members asking.before asking.length false asking.halves
 
+-- what is left in either case
 abbrev pub remaining : Part → Plan
 remaining (part.Asks asking) = left_of asking
 remaining (part.Done kept) = found kept.members

@@ -1,4 +1,4 @@
-use Rattle.std.proofs.Common.{◌≡◌, ℕ, ◌<◌, [], ◌∷◌, refl, ⊎_elim, arith}
+use Rattle.std.proofs.Common.{◌≡◌, [], ◌∷◌, refl, ⊎_elim, arith}
 use Rattle.std.specs.Prelude.{Contains}
 use Rattle.std.specs.List.Sorted.{IsStrictlyIncreasing}
 use Rattle.pref_sets.proofs.AscendingPositions.{Ascends, IsStrictlyIncreasing-from_Ascends}

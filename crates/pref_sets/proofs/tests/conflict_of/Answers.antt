@@ -1,4 +1,4 @@
-use Rattle.std.proofs.Common.{ℕ, List}
+use Rattle.std.proofs.Common.{ℕ}
 use Rattle.pref_sets.specs.Properties.{PassesToMore}
 use Rattle.std.specs.Prelude.{Contains}
 use Rattle.pref_sets.proofs.tests.conflict_of.Goals as goal
