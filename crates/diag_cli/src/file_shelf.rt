@@ -1,5 +1,6 @@
 //! A shelf over the files of the system.
-ghost use Rattle.std.specs.Prelude.{◌≤◌, ◌<◌, ◌^◌, length, IfOk};
+ghost use Rattle.std.specs.Prelude.{◌≤◌, ◌<◌, ◌^◌, length, IfOk, IsErrOf};
+ghost use Rattle.diag_base.specs.Faults.{Rises};
 ghost use Rattle.diag_base.specs.Shelf.{Counts, IsShort};
 
 use diag_base::{Bytes, FetchError, Fetched, Shelf};
@@ -36,6 +37,10 @@ impl<R: Files> Shelf for FileShelf<R> {
     fn fetch(&mut self, alloc: Global, name: &str, most: usize) -> Result<Fetched, FetchError>
         requires { most < 2 ^ 31 }
         ensures short { IsShort most result }
+        ensures failed { IsErrOf result FetchError.Failed → Rises self.old.faults self.new.faults }
+        ensures never_falls { self.old.faults ≤ self.new.faults }
+
+        // It counts each failure once.
         ensures counts { Counts self.old.faults self.new.faults result }
     {
         let fetched = match fs::open(&self.files, name) {

@@ -1,4 +1,6 @@
 //! A sink over a writer.
+ghost use Rattle.std.specs.Prelude.{◌≤◌, OnErr};
+ghost use Rattle.diag_base.specs.Faults.{Rises};
 ghost use Rattle.diag_base.specs.Sink.{Counts};
 
 use diag_base::{PutFailed, Sink};
@@ -26,7 +28,11 @@ impl<W: Write> Sink for OutSink<W> {
 
     /// A write that takes nothing of a piece that isn't empty is a fault.
     fn put(&mut self, bytes: &[u8]) -> Result<(), PutFailed>
-        ensures { Counts self.old.faults self.new.faults result }
+        ensures failed { OnErr result (Rises self.old.faults self.new.faults) }
+        ensures never_falls { self.old.faults ≤ self.new.faults }
+
+        // It counts each failure once.
+        ensures counts { Counts self.old.faults self.new.faults result }
     {
         let mut rest = bytes;
         'writes: while !rest.is_empty() {
