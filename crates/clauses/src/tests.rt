@@ -57,6 +57,7 @@ fn problems_are_satisfied(rt: HostRuntime) {
         clauses: Clauses::new(rt.alloc()),
         roots: Lits::new(rt.alloc()),
         allowance: 10_000,
+        rungs: 0,
     };
     assert!(rt; problem.satisfies(&[true, false]));
     assert!(rt; problem.n() == 0);

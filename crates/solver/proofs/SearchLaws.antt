@@ -12,10 +12,10 @@ use Rattle.pref_sets.specs.Trimmed.{IsTrimmed, trimmed_of, without_item}
 use Rattle.pref_sets.specs.Preferred.{IsDistinct, IsWithin}
 use Rattle.pref_sets.proofs.GreedyLaws.{IsGreedy-unique, IsGreedy-greedy_of}
 use Rattle.clauses.specs.declared.literal.Lit.{Lit}
-use Rattle.clauses.specs.Clause.{has, positive_of, negative_of, unit_of}
+use Rattle.clauses.specs.Clause.{has, positive_of, negative_of, literal_with, unit_of}
 use Rattle.clauses.specs.Closure.{closure, clash, AreAmong}
 use Rattle.clauses.specs.Problem.{IsBelow}
-use Rattle.clauses.specs.Search.{Turn, all_false, some_true, needed_decisions, cut_after, turn_at_learning, up_to}
+use Rattle.clauses.specs.Search.{Turn, all_with, some_without, needed_decisions, cut_after, turn_at_learning, up_to}
 use Rattle.lists.proofs.Members.{none, first, later, first_or_later, from_filter}
 use Rattle.clauses.proofs.Cuts.{cut-distinct, cut-within}
 use Rattle.clauses.proofs.TurnLaws.{IsTurn, answers, decides, refutes, gives_up, adds_clause, turn_is}
@@ -24,35 +24,35 @@ use Rattle.propagation.specs.Propagation.{value_of}
 use Rattle.propagation.proofs.ValueLaws.{clash-same, value-same, part-among}
 use Rattle.propagation.proofs.GrowthLaws.{there, back}
 use Rattle.solver.specs.inside.TestLaws.{more-clash}
-use Rattle.solver.specs.inside.Trials.{Trying, with_false, variables_in, Clashes}
+use Rattle.solver.specs.inside.Trials.{Trying, with_tried, variables_in, Clashes}
 use Rattle.solver.specs.inside.Searching.{Searching, standing, clauses_of, all_under, turn_of, IsShown, IsSearch}
 use Rattle.lists.proofs.Distinct.{distinct-push}
 
 -- ---- what is tried, in the order of the definition of the search
 
-units-false : (variables : List ℕ) → map unit_of (map negative_of variables) ≡ all_false variables
-units-false [] = refl
-units-false (x ∷ xs) = ap (λ rest. unit_of (negative_of x) ∷ rest) (units-false xs)
+units-with : (value : Bool) (variables : List ℕ) → map unit_of (map (literal_with value) variables) ≡ all_with value variables
+units-with value [] = refl
+units-with value (x ∷ xs) = ap (λ rest. unit_of (literal_with value x) ∷ rest) (units-with value xs)
 
 module _ (t : Trying) (decisions : List ℕ) where
   abbrev tries : List (List Lit)
-  tries = with_false t decisions
+  tries = with_tried t decisions
 
   abbrev searches : List (List Lit)
-  searches = (clauses_of t ++ t.learned) ++ all_false decisions
+  searches = (clauses_of t ++ t.learned) ++ all_with t.first decisions
 
-  ordered : tries ≡ (t.problem.clauses ++ t.learned) ++ (map unit_of t.fixed ++ all_false decisions)
-  ordered = ap (λ units. (t.problem.clauses ++ t.learned) ++ units) (map-append unit_of t.fixed (map negative_of decisions) ∙ ap (λ units. map unit_of t.fixed ++ units) (units-false decisions))
+  ordered : tries ≡ (t.problem.clauses ++ t.learned) ++ (map unit_of t.fixed ++ all_with t.first decisions)
+  ordered = ap (λ units. (t.problem.clauses ++ t.learned) ++ units) (map-append unit_of t.fixed (map (literal_with t.first) decisions) ∙ ap (λ units. map unit_of t.fixed ++ units) (units-with t.first decisions))
 
   tries-there : AreAmong tries searches
   tries-there =
       subst (λ clauses. AreAmong clauses searches) (sym ordered)
-      (part-among ((t.problem.clauses ++ t.learned) ++ (map unit_of t.fixed ++ all_false decisions)) searches (there t.problem.clauses t.learned (map unit_of t.fixed) (all_false decisions)))
+      (part-among ((t.problem.clauses ++ t.learned) ++ (map unit_of t.fixed ++ all_with t.first decisions)) searches (there t.problem.clauses t.learned (map unit_of t.fixed) (all_with t.first decisions)))
 
   tries-back : AreAmong searches tries
   tries-back =
       subst (λ clauses. AreAmong searches clauses) (sym ordered)
-      (part-among searches ((t.problem.clauses ++ t.learned) ++ (map unit_of t.fixed ++ all_false decisions)) (back t.problem.clauses t.learned (map unit_of t.fixed) (all_false decisions)))
+      (part-among searches ((t.problem.clauses ++ t.learned) ++ (map unit_of t.fixed ++ all_with t.first decisions)) (back t.problem.clauses t.learned (map unit_of t.fixed) (all_with t.first decisions)))
 
   pub clash-searched : clash tries ≡ clash searches
   clash-searched = clash-same tries searches tries-there tries-back
@@ -64,13 +64,13 @@ module _ (t : Trying) (decisions : List ℕ) where
 
 module _ (at : Searching) where
   abbrev shown : List (List Lit)
-  shown = with_false at.trial at.trial.tried
+  shown = with_tried at.trial at.trial.tried
 
   all_tried : (untried : List ℕ) → at.decisions ≡ at.trial.tried ++ untried → untried ≡ [] → at.trial.tried ≡ at.decisions
   all_tried untried e none = sym (e ∙ ap (λ rest. at.trial.tried ++ rest) none ∙ append-nil at.trial.tried)
 
   by_untried : (untried : List ℕ) → at.decisions ≡ at.trial.tried ++ untried → (untried ≡ []) ⊎ IsTrue (clash shown) → clash shown ≡ clash (all_under at)
-  by_untried untried e (inl none) = ap (λ variables. clash (with_false at.trial variables)) (all_tried untried e none) ∙ clash-searched at.trial at.decisions
+  by_untried untried e (inl none) = ap (λ variables. clash (with_tried at.trial variables)) (all_tried untried e none) ∙ clash-searched at.trial at.decisions
   by_untried untried e (inr clashes) =
       let part : IsWithin at.trial.tried at.decisions = λ v m. subst (λ variables. Contains variables v) (sym e) (Contains-append_left at.trial.tried untried v m) in
       clashes ∙ sym (sym (clash-searched at.trial at.decisions) ∙ more-clash at.trial at.trial.tried at.decisions part clashes)
@@ -86,7 +86,7 @@ module _ (at : Searching) where
     shown-all = ⊎_elim (λ (none : is.0 ≡ []). all_tried is.0 is.1 none) (λ (clashes : IsTrue (clash shown)). absurd (false≢true (sym shown-no_clash ∙ clashes))) is.2
 
     pub shown-value : (v : ℕ) → value_of shown v ≡ value_of (all_under at) v
-    shown-value v = ap (λ variables. value_of (with_false at.trial variables) v) shown-all ∙ value-searched at.trial at.decisions v
+    shown-value v = ap (λ variables. value_of (with_tried at.trial variables) v) shown-all ∙ value-searched at.trial at.decisions v
 
 -- ---- open variables
 
@@ -153,21 +153,21 @@ module _ (p : ℕ → Bool) where
 
 module _ (at : Searching) where
   abbrev Comes : Turn → Type 0
-  Comes r = IsTurn (clauses_of at.trial) at.trial.problem.variables at.trial.problem.allowance (standing at) r
+  Comes r = IsTurn at.trial.first (clauses_of at.trial) at.trial.problem.variables at.allowance (standing at) r
 
   comes : Comes (turn_of at)
-  comes = turn_is (clauses_of at.trial) at.trial.problem.variables at.trial.problem.allowance (standing at)
+  comes = turn_is at.trial.first (clauses_of at.trial) at.trial.problem.variables at.allowance (standing at)
 
-  learned : (r : Turn) → Comes r → clash (all_under at) ≡ true → ¬ at.decisions ≡ [] → ¬ length at.trial.learned ≡ at.trial.problem.allowance
-      → r ≡ turn_at_learning (standing at) (needed_decisions (clauses_of at.trial ++ at.trial.learned) at.decisions)
+  learned : (r : Turn) → Comes r → clash (all_under at) ≡ true → ¬ at.decisions ≡ [] → ¬ length at.trial.learned ≡ at.allowance
+      → r ≡ turn_at_learning at.trial.first (standing at) (needed_decisions at.trial.first (clauses_of at.trial ++ at.trial.learned) at.decisions)
   learned r (answers c o q) e d l = absurd (cc)
   learned r (decides x xs c o q) e d l = absurd (cc)
   learned r (refutes c o q) e d l = absurd (d o)
-  learned r (gives_up c x xs o n q) e d l = absurd (l (eqb-true (length at.trial.learned) at.trial.problem.allowance n))
+  learned r (gives_up c x xs o n q) e d l = absurd (l (eqb-true (length at.trial.learned) at.allowance n))
   learned r (adds_clause c x xs o n q) e d l = q
 
-  pub turn-learns : clash (all_under at) ≡ true → ¬ at.decisions ≡ [] → ¬ length at.trial.learned ≡ at.trial.problem.allowance
-      → turn_of at ≡ turn_at_learning (standing at) (needed_decisions (clauses_of at.trial ++ at.trial.learned) at.decisions)
+  pub turn-learns : clash (all_under at) ≡ true → ¬ at.decisions ≡ [] → ¬ length at.trial.learned ≡ at.allowance
+      → turn_of at ≡ turn_at_learning at.trial.first (standing at) (needed_decisions at.trial.first (clauses_of at.trial ++ at.trial.learned) at.decisions)
   turn-learns = learned (turn_of at) comes
 
 -- ---- what a clash needs
@@ -188,13 +188,13 @@ agreeing P Q all same (x ∷ items) set last within (inr g) =
 
 module _ (t : Trying) (decisions : List ℕ) (below : All (λ v. v < t.problem.variables) decisions) where
   abbrev test : List ℕ → Bool
-  test set = clash ((clauses_of t ++ t.learned) ++ all_false set)
+  test set = clash ((clauses_of t ++ t.learned) ++ all_with t.first set)
 
   variables-all : (set : List ℕ) → IsWithin set decisions → variables_in t.problem set ≡ set
   variables-all set within = passing (λ v. ltb v t.problem.variables) set (λ v m. lt-ltb v t.problem.variables (All-contains (λ x. x < t.problem.variables) decisions v below (within v m)))
 
-  same_clash : (set : List ℕ) → IsWithin set decisions → clash (with_false t (variables_in t.problem set)) ≡ test set
-  same_clash set within = ap (λ variables. clash (with_false t variables)) (variables-all set within) ∙ clash-searched t set
+  same_clash : (set : List ℕ) → IsWithin set decisions → clash (with_tried t (variables_in t.problem set)) ≡ test set
+  same_clash set within = ap (λ variables. clash (with_tried t variables)) (variables-all set within) ∙ clash-searched t set
 
   same_test : (set : List ℕ) → IsWithin set decisions → Clashes t set ↔ IsTrue (test set)
   same_test set within = ((λ e. sym (same_clash set within) ∙ e), (λ e. same_clash set within ∙ e))
@@ -202,7 +202,7 @@ module _ (t : Trying) (decisions : List ℕ) (below : All (λ v. v < t.problem.v
   pub clashes-there : IsTrue (test decisions) → Clashes t decisions
   clashes-there = (same_test decisions (λ v m. m)).1
 
-  pub trimmed-needed : (left : List ℕ) → IsTrimmed (Clashes t) decisions left → left ≡ needed_decisions (clauses_of t ++ t.learned) decisions
+  pub trimmed-needed : (left : List ℕ) → IsTrimmed (Clashes t) decisions left → left ≡ needed_decisions t.first (clauses_of t ++ t.learned) decisions
   trimmed-needed left trimmed =
       IsGreedy-unique (λ set. IsTrue (test set)) without_item (reverse decisions) decisions left (trimmed_of test decisions)
       (agreeing (Clashes t) (λ set. IsTrue (test set)) decisions same_test (reverse decisions) decisions left (λ v m. m) trimmed)
@@ -212,10 +212,10 @@ module _ (t : Trying) (decisions : List ℕ) (below : All (λ v. v < t.problem.v
   trimmed-part left trimmed v m = trimmed-within test decisions v (subst (λ set. Contains set v) (trimmed-needed left trimmed) m)
 
 -- the clause of decisions is about the problem's variables
-pub some_true-below : (n : ℕ) (decisions set : List ℕ) → All (λ v. v < n) decisions → IsWithin set decisions → All (IsBelow n) (some_true set)
-some_true-below n decisions [] below within = λ k d lt. absurd (omega arith)
-some_true-below n decisions (x ∷ xs) below within =
-    All-cons (IsBelow n) (positive_of x) (some_true xs) (All-contains (λ v. v < n) decisions x below (within x (first x xs))) (some_true-below n decisions xs below (λ v m. within v (later x xs v m)))
+pub some_without-below : (value : Bool) (n : ℕ) (decisions set : List ℕ) → All (λ v. v < n) decisions → IsWithin set decisions → All (IsBelow n) (some_without value set)
+some_without-below value n decisions [] below within = λ k d lt. absurd (omega arith)
+some_without-below value n decisions (x ∷ xs) below within =
+    All-cons (IsBelow n) (literal_with (not value) x) (some_without value xs) (All-contains (λ v. v < n) decisions x below (within x (first x xs))) (some_without-below value n decisions xs below (λ v m. within v (later x xs v m)))
 
 -- ---- going back
 
@@ -264,17 +264,17 @@ cut-many decisions trimmed many =
 
 -- ---- a decision more
 
-pub search-decides : (t : Trying) (decisions : List ℕ) (v : ℕ) → IsSearch t decisions → v < t.problem.variables → ¬ Contains decisions v → (tried : List ℕ) → IsSearch (record t { tried = tried }) (decisions ++ v ∷ [])
-search-decides t decisions v is below new tried = record {
+pub search-decides : (t : Trying) (decisions : List ℕ) (allowance v : ℕ) → IsSearch t decisions allowance → v < t.problem.variables → ¬ Contains decisions v → (tried : List ℕ) → IsSearch (record t { tried = tried }) (decisions ++ v ∷ []) allowance
+search-decides t decisions allowance v is below new tried = record {
   allowed = is.allowed;
   distinct = distinct-push decisions v is.distinct new;
   below = All-push (λ x. x < t.problem.variables) decisions v is.below below;
 }
 
 -- a clause learned, and the decisions cut
-pub search-learns : (t : Trying) (decisions : List ℕ) → IsSearch t decisions → length t.learned < t.problem.allowance → (clause : List Lit) (order tried : List ℕ)
-    → IsSearch (record t { learned = t.learned ++ clause ∷ []; tried = tried }) (cut_after decisions order)
-search-learns t decisions is allowed clause order tried = record {
+pub search-learns : (t : Trying) (decisions : List ℕ) (allowance : ℕ) → IsSearch t decisions allowance → length t.learned < allowance → (clause : List Lit) (order tried : List ℕ)
+    → IsSearch (record t { learned = t.learned ++ clause ∷ []; tried = tried }) (cut_after decisions order) allowance
+search-learns t decisions allowance is allowed clause order tried = record {
   allowed = (let longer : length (t.learned ++ clause ∷ []) ≡ length t.learned + 1 = length_push t.learned clause in omega arith);
   distinct = cut-distinct decisions order is.distinct;
   below = within-below t.problem.variables decisions (cut_after decisions order) is.below (cut-within decisions order);
