@@ -1,11 +1,11 @@
 -- The turns of a search: what is tried stands for what is propagated, which variable is open, and what a clash leaves.
-use Rattle.std.proofs.Common.{◌≡◌, ◌∙◌, ◌⊎◌, refl, sym, ap, subst, inl, inr, ⊎_elim, ℕ, zero, suc, ◌+◌, ◌-◌, ◌<◌, ◌≤◌, Bool, true, false, cond, not, ◌&&◌, eqb, ltb, List, [], ◌∷◌, ◌++◌, length, get_or, map, take, reverse, All, Option, Some, None, arith}
+use Rattle.std.proofs.Common.{◌≡◌, ◌∙◌, ◌⊎◌, refl, sym, ap, subst, inl, inr, ⊎_elim, ℕ, zero, suc, ◌+◌, ◌-◌, ◌<◌, ◌≤◌, Bool, true, false, cond, not, ◌&&◌, eqb, ltb, List, [], ◌∷◌, ◌++◌, length, get_or, map, take, reverse, All, Option, Some, None, append_assoc, arith}
 use Rattle.std.specs.Prelude.{◌↔◌, Contains, IsTrue, filter}
 use Rattle.std.specs.List.{range_with_len, position_or_len}
 use Rattle.std.specs.Option.{is_some, option_eq}
 use Rattle.std.proofs.Math.Bool.{beq}
 use Rattle.std.proofs.lemmas.Bool.{false≢true, true≢false, cases_eq, lt-ltb, ltb-false, eqb-true}
-use Rattle.std.proofs.lemmas.List.{append-nil, map-append, get_or-reverse, length-reverse, length_push, take_all}
+use Rattle.std.proofs.lemmas.List.{append-nil, map-append, map_push, get_or-reverse, length-reverse, length_push, take_all}
 use Rattle.std.proofs.lemmas.List.Elements.{All-cons, All-push, All-contains, Contains-append_left, Contains-get_or}
 use Rattle.pref_sets.specs.Greedy.{IsGreedy}
 use Rattle.pref_sets.specs.Trimmed.{IsTrimmed, trimmed_of, without_item}
@@ -19,13 +19,14 @@ use Rattle.clauses.specs.Search.{Turn, all_with, some_without, needed_decisions,
 use Rattle.lists.proofs.Members.{none, first, later, first_or_later, from_filter}
 use Rattle.clauses.proofs.Cuts.{cut-distinct, cut-within}
 use Rattle.clauses.proofs.TurnLaws.{IsTurn, answers, decides, refutes, gives_up, adds_clause, turn_is}
-use Rattle.clauses.proofs.TrimmedLaws.{trimmed-within}
+use Rattle.clauses.proofs.Literals.{has-more}
+use Rattle.clauses.proofs.TrimmedLaws.{closure-more, trimmed-within}
 use Rattle.propagation.specs.Propagation.{value_of}
 use Rattle.propagation.proofs.ValueLaws.{clash-same, value-same, part-among}
 use Rattle.propagation.proofs.GrowthLaws.{there, back}
 use Rattle.solver.specs.inside.TestLaws.{more-clash}
 use Rattle.solver.specs.inside.Trials.{Trying, with_tried, variables_in, Clashes}
-use Rattle.solver.specs.inside.Searching.{Searching, standing, clauses_of, all_under, turn_of, IsShown, IsSearch}
+use Rattle.solver.specs.inside.Searching.{AreSettled, Searching, is_open, standing, clauses_of, all_under, turn_of, IsShown, IsSearch}
 use Rattle.lists.proofs.Distinct.{distinct-push}
 
 -- ---- what is tried, in the order of the definition of the search
@@ -89,9 +90,6 @@ module _ (at : Searching) where
     shown-value v = ap (λ variables. value_of (with_tried at.trial variables) v) shown-all ∙ value-searched at.trial at.decisions v
 
 -- ---- open variables
-
-abbrev pub is_open : List (List Lit) → ℕ → Bool
-is_open clauses v = not (has (closure clauses) (positive_of v)) && not (has (closure clauses) (negative_of v))
 
 some-closed : (y n b : Bool) → cond y (Some true) (cond n (Some false) None) ≡ Some b → (not y && not n) ≡ false
 some-closed true n b e = refl
@@ -264,20 +262,55 @@ cut-many decisions trimmed many =
 
 -- ---- a decision more
 
-pub search-decides : (t : Trying) (decisions : List ℕ) (allowance v : ℕ) → IsSearch t decisions allowance → v < t.problem.variables → ¬ Contains decisions v → (tried : List ℕ) → IsSearch (record t { tried = tried }) (decisions ++ v ∷ []) allowance
-search-decides t decisions allowance v is below new tried = record {
+-- more clauses leave fewer variables open
+or_has : (y n : Bool) → (not y && not n) ≡ false → (y ≡ true) ⊎ (n ≡ true)
+or_has true n e = inl refl
+or_has false true e = inr refl
+or_has false false e = absurd (true≢false e)
+
+has_yes : (y n : Bool) → y ≡ true → (not y && not n) ≡ false
+has_yes true n e = refl
+has_yes false n e = absurd (false≢true e)
+
+has_no : (y n : Bool) → n ≡ true → (not y && not n) ≡ false
+has_no true n e = refl
+has_no false true e = refl
+has_no false false e = absurd (false≢true e)
+
+module _ (a b : List (List Lit)) (within : (clause : List Lit) → Contains a clause → Contains b clause) (v : ℕ) where
+  settled-more : is_open a v ≡ false → is_open b v ≡ false
+  settled-more e =
+      ⊎_elim
+      (λ (y : has (closure a) (positive_of v) ≡ true). has_yes (has (closure b) (positive_of v)) (has (closure b) (negative_of v)) (has-more (closure a) (closure b) (closure-more a b within) (positive_of v) y))
+      (λ (n : has (closure a) (negative_of v) ≡ true). has_no (has (closure b) (positive_of v)) (has (closure b) (negative_of v)) (has-more (closure a) (closure b) (closure-more a b within) (negative_of v) n))
+      (or_has (has (closure a) (positive_of v)) (has (closure a) (negative_of v)) e)
+
+-- a decision more
+with-more : (value : Bool) (clauses : List (List Lit)) (decisions : List ℕ) (v : ℕ) → (clause : List Lit) → Contains (clauses ++ all_with value decisions) clause → Contains (clauses ++ all_with value (decisions ++ v ∷ [])) clause
+with-more value clauses decisions v clause m =
+    subst (λ units. Contains (clauses ++ units) clause) (sym (map_push (λ (x : ℕ). unit_of (literal_with value x)) decisions v))
+    (subst (λ cs. Contains cs clause) (append_assoc clauses (all_with value decisions) (unit_of (literal_with value v) ∷ []))
+    (Contains-append_left (clauses ++ all_with value decisions) (unit_of (literal_with value v) ∷ []) clause m))
+
+pub search-decides : (t : Trying) (decisions : List ℕ) (allowance settled v : ℕ) → IsSearch t decisions allowance settled → v < t.problem.variables → ¬ Contains decisions v
+    → AreSettled (record { trial = t; decisions = decisions; allowance = allowance }) v → (tried : List ℕ) → IsSearch (record t { tried = tried }) (decisions ++ v ∷ []) allowance v
+search-decides t decisions allowance settled v is below new low tried = record {
   allowed = is.allowed;
   distinct = distinct-push decisions v is.distinct new;
   below = All-push (λ x. x < t.problem.variables) decisions v is.below below;
+  settled_below = λ x l.
+      settled-more ((clauses_of t ++ t.learned) ++ all_with t.first decisions) ((clauses_of t ++ t.learned) ++ all_with t.first (decisions ++ v ∷ []))
+      (with-more t.first (clauses_of t ++ t.learned) decisions v) x (low x l);
 }
 
 -- a clause learned, and the decisions cut
-pub search-learns : (t : Trying) (decisions : List ℕ) (allowance : ℕ) → IsSearch t decisions allowance → length t.learned < allowance → (clause : List Lit) (order tried : List ℕ)
-    → IsSearch (record t { learned = t.learned ++ clause ∷ []; tried = tried }) (cut_after decisions order) allowance
-search-learns t decisions allowance is allowed clause order tried = record {
+pub search-learns : (t : Trying) (decisions : List ℕ) (allowance settled : ℕ) → IsSearch t decisions allowance settled → length t.learned < allowance → (clause : List Lit) (order tried : List ℕ)
+    → IsSearch (record t { learned = t.learned ++ clause ∷ []; tried = tried }) (cut_after decisions order) allowance 0
+search-learns t decisions allowance settled is allowed clause order tried = record {
   allowed = (let longer : length (t.learned ++ clause ∷ []) ≡ length t.learned + 1 = length_push t.learned clause in omega arith);
   distinct = cut-distinct decisions order is.distinct;
   below = within-below t.problem.variables decisions (cut_after decisions order) is.below (cut-within decisions order);
+  settled_below = λ v l. absurd (omega arith);
 }
 
 -- an untried decision is a new one

@@ -5,7 +5,7 @@ ghost use Rattle.pref_sets.specs.Preferred.{IsWithin};
 ghost use Rattle.clauses.specs.Closure.{clash, closure};
 ghost use Rattle.clauses.specs.Search.{cut_after, open_variables, some_without, values_of};
 ghost use Rattle.solver.specs.Answers.{meaning};
-ghost use Rattle.solver.specs.inside.Searching.{AreShown, Begins, IsShown, IsTurn, all_under, ended};
+ghost use Rattle.solver.specs.inside.Searching.{AreSettled, AreShown, Begins, IsShown, IsTurn, all_under, ended};
 ghost use Rattle.solver.specs.inside.Trials.{with_tried};
 
 use crate::answer::{Answer, Assignment};
@@ -33,6 +33,8 @@ pub(crate) struct Search<'a> {
     decisions: Vec<u32>,
     /// How many clauses may be learned.
     allowance: u64,
+    /// No variable below this one is open, so the search for the lowest goes on from here.
+    settled: u32,
 }
 
 impl<'a> Model for Search<'a> {
@@ -42,7 +44,7 @@ impl<'a> Model for Search<'a> {
 
     ghost view = { λ a. record { trial = a.trial; decisions = a.decisions.items; allowance = a.allowance } };
 
-    ghost invariant = { λ a. IsSearch a.trial a.decisions.items a.allowance };
+    ghost invariant = { λ a. IsSearch a.trial a.decisions.items a.allowance a.settled };
 }
 
 impl<'a> Search<'a> {
@@ -63,6 +65,7 @@ impl<'a> Search<'a> {
                 trial,
                 decisions: Vec::new(alloc),
                 allowance,
+                settled: 0,
             })),
         }
     }
@@ -81,8 +84,9 @@ impl<'a> Search<'a> {
         requires no_clash { IsFalse (clash (all_under self.now)) }
         ensures none { result ≡ None → open_variables self.now.trial.problem.variables (closure (all_under self.now)) ≡ [] }
         ensures some { IfSome result (λ lowest. (others : List ℕ) × (open_variables self.now.trial.problem.variables (closure (all_under self.now)) ≡ lowest ∷ others)) }
+        ensures below { IfSome result (AreSettled self.now) }
     {
-        for variable in 0..self.trial.problem().variables {
+        for variable in self.settled..self.trial.problem().variables {
             if self.trial.value(variable).is_none() {
                 return Some(variable);
             }
@@ -111,12 +115,14 @@ impl<'a> Search<'a> {
         requires no_clash { IsFalse (clash (all_under self.old)) }
         requires variable { variable < self.old.trial.problem.variables }
         requires new { ¬ Contains self.old.decisions variable }
+        requires settled { AreSettled self.old variable }
         ensures trial { OnOk result (self.new.trial ≡ record self.old.trial { tried = self.old.decisions ++ variable ∷ [] }) }
         ensures decisions { OnOk result (self.new.decisions ≡ self.old.decisions ++ variable ∷ []) }
         ensures allowance { self.new.allowance ≡ self.old.allowance }
     {
         self.decisions.push(variable)?;
         self.trial.decide(variable);
+        self.settled = variable;
         Ok(())
     }
 
@@ -159,6 +165,7 @@ impl<'a> Search<'a> {
         let clause = some_without(alloc, self.trial.first(), trimmed)?;
         self.trial.learn(clause.as_slice())?;
         cut(&mut self.decisions, trimmed);
+        self.settled = 0;
         try_all(&mut self.trial, &self.decisions);
         Ok(())
     }

@@ -1,9 +1,9 @@
 -- What a search knows between two turns, and what a turn comes to.
-use Rattle.std.specs.Prelude.{◌≡◌, ◌⊎◌, ◌<◌, ◌≤◌, ℕ, Bool, IsFalse, IsTrue, All, List, [], ◌∷◌, ◌++◌, length, map, Option, Some, None}
+use Rattle.std.specs.Prelude.{◌≡◌, ◌⊎◌, ◌<◌, ◌≤◌, ℕ, Bool, false, not, ◌&&◌, IsFalse, IsTrue, All, List, [], ◌∷◌, ◌++◌, length, map, Option, Some, None}
 use Rattle.pref_sets.specs.Preferred.{IsDistinct}
 use Rattle.req_keys.specs.Key.{PositionSet}
 use Rattle.clauses.specs.declared.literal.Lit.{Lit}
-use Rattle.clauses.specs.Clause.{unit_of}
+use Rattle.clauses.specs.Clause.{has, negative_of, positive_of, unit_of}
 use Rattle.clauses.specs.Closure.{closure, clash}
 use Rattle.clauses.specs.Problem.{ClauseProblem, clauses_with, roots_at}
 use Rattle.clauses.specs.Search.{SearchAnswer, Sat, Unsat, Limit, Standing, Turn, GoesOn, Ends, turn, under, values_of}
@@ -59,8 +59,18 @@ Begins problem key first allowance None = IsTrue (clash (clauses_with problem ke
 Begins problem key first allowance (Some at) =
     at ≡ record { trial = record { problem = problem; learned = []; fixed = roots_at problem key; tried = []; first = first }; decisions = []; allowance = allowance }
 
--- what a `Search` keeps: the decisions are distinct variables, and no more is learned than is allowed
-pub record IsSearch (trial : Trying) (decisions : List ℕ) (allowance : ℕ) : Type 0 where
+-- whether the closure has no literal of the variable
+abbrev pub is_open : List (List Lit) → ℕ → Bool
+is_open clauses variable = not (has (closure clauses) (positive_of variable)) && not (has (closure clauses) (negative_of variable))
+
+-- no variable below this number is open
+abbrev pub AreSettled : Searching → ℕ → Type 0
+AreSettled at settled = (variable : ℕ) → variable < settled → is_open (all_under at) variable ≡ false
+
+-- what a `Search` keeps: the decisions are distinct variables, no more is learned than is allowed, and below some number
+-- no variable is open
+pub record IsSearch (trial : Trying) (decisions : List ℕ) (allowance settled : ℕ) : Type 0 where
   pub allowed : length trial.learned ≤ allowance
   pub distinct : IsDistinct decisions
   pub below : All (λ variable. variable < trial.problem.variables) decisions
+  pub settled_below : AreSettled (record { trial = trial; decisions = decisions; allowance = allowance }) settled

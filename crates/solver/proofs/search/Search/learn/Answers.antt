@@ -34,6 +34,6 @@ invariant_of-self-2 c =
     subst (λ (s : Searching). length s.trial.learned < s.allowance) (sym c.self.view_is) c.requires.allowed in
     let tried : List ℕ = c.try_all.new.trial.tried in
     let now = c.try_all.ensures.same ∙ ap (λ (t : Trying). record t { tried = tried }) c.in_ok-learn.ensures.ok in
-    subst (λ (t : Trying). IsSearch t c.cut.new.decisions.items c.self.inside.allowance) (sym now)
-    (subst (λ (ds : List ℕ). IsSearch (record c.self.inside.trial { learned = c.self.inside.trial.learned ++ c.as_slice.result.now ∷ []; tried = tried }) ds c.self.inside.allowance) (sym c.cut.ensures)
-    (search-learns c.self.inside.trial c.self.inside.decisions.items c.self.inside.allowance c.self.invariant allowed c.as_slice.result.now (reverse c.args.trimmed.now) tried))
+    subst (λ (t : Trying). IsSearch t c.cut.new.decisions.items c.self.inside.allowance 0) (sym now)
+    (subst (λ (ds : List ℕ). IsSearch (record c.self.inside.trial { learned = c.self.inside.trial.learned ++ c.as_slice.result.now ∷ []; tried = tried }) ds c.self.inside.allowance 0) (sym c.cut.ensures)
+    (search-learns c.self.inside.trial c.self.inside.decisions.items c.self.inside.allowance c.self.inside.settled c.self.invariant allowed c.as_slice.result.now (reverse c.args.trimmed.now) tried))

@@ -3,8 +3,8 @@ use Rattle.clauses.specs.Closure.{clash}
 use Rattle.clauses.specs.Problem.{ClauseProblem}
 use Rattle.propagation.specs.Propagation.{value_of}
 use Rattle.solver.specs.inside.Trials.{with_tried}
-use Rattle.solver.specs.inside.Searching.{Searching, all_under}
-use Rattle.solver.proofs.SearchLaws.{shown-no_clash, shown-value, is_open, value-closed, value-open, none-pass, first-passes}
+use Rattle.solver.specs.inside.Searching.{Searching, all_under, is_open}
+use Rattle.solver.proofs.SearchLaws.{shown-no_clash, shown-value, value-closed, value-open, none-pass, first-passes}
 use Rattle.solver.proofs.search.Search.lowest_open.Goals as goal
 
 pub value-requires-clause-no_clash : goal.value-requires-clause-no_clash
