@@ -163,6 +163,9 @@ cube-one_second = refl
 pub cube-none_second : search_of (with_rungs 1 (problem_of 12 4 cube [] 0)) no_requirements ≡ Some Limit
 cube-none_second = refl
 
+pub cube-two_second : search_of (with_rungs 1 (problem_of 12 4 cube [] 2)) no_requirements ≡ Some (Unsat ((no 1 ∷ no 2 ∷ []) ∷ (no 1 ∷ []) ∷ (no 2 ∷ []) ∷ [] ∷ []))
+cube-two_second = refl
+
 pub cube-three_second : search_of (with_rungs 1 (problem_of 12 4 cube [] 3)) no_requirements ≡ Some (Unsat ((yes 1 ∷ yes 2 ∷ []) ∷ (yes 1 ∷ []) ∷ (yes 2 ∷ []) ∷ [] ∷ []))
 cube-three_second = refl
 

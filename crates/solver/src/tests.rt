@@ -23,8 +23,8 @@ fn problem_of(alloc: Global, row: &Row) -> Result<Problem, AllocError> {
         features: 6,
         clauses: clauses_of(alloc, 6, row.clauses)?,
         roots,
-        allowance: row.allowance,
-        rungs: row.rungs,
+        allowance: u64::from(row.allowance),
+        rungs: row.rungs.min(4),
     })
 }
 
@@ -36,7 +36,8 @@ struct Row {
     roots: &'static [u8; 2],
     /// Whether the roots are asked for.
     with_roots: bool,
-    allowance: u64,
+    allowance: u16,
+    /// At most 4.
     rungs: u8,
     /// The values, `limit`, or the lines, each with a full stop behind it.
     answer: &'static str,
@@ -54,7 +55,7 @@ const THREE_NEEDED: &[&str] = &["acef", "aceF", "aEf", "aEF"];
 /// A row without roots.
 fn rising(
     clauses: &'static [&'static str],
-    allowance: u64,
+    allowance: u16,
     rungs: u8,
     answer: &'static str,
 ) -> Row {
@@ -69,7 +70,7 @@ fn rising(
 }
 
 /// One with a single attempt.
-fn plain(clauses: &'static [&'static str], allowance: u64, answer: &'static str) -> Row {
+fn plain(clauses: &'static [&'static str], allowance: u16, answer: &'static str) -> Row {
     rising(clauses, allowance, 0, answer)
 }
 
