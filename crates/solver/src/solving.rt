@@ -1,6 +1,6 @@
 //! The search.
 ghost use Rattle.std.specs.Prelude.{◌≡◌, ◌≤◌, [], ◌∷◌, Some, IfOk, IsTrue, IsErrOf, length};
-ghost use Rattle.clauses.specs.Search.{Unsat, allowance_of, attempt_of, search_of, verdict_of, verdict_on};
+ghost use Rattle.clauses.specs.Search.{Unsat, allowance_of, attempt_of, first_of, search_of, verdict_of, verdict_on};
 ghost use Rattle.solver.specs.Answers.{IsRight, meaning};
 ghost use Rattle.solver.specs.Stopping.{Rises};
 ghost use Rattle.solver.specs.inside.Searching.{IsShown, IsTurn};
@@ -43,6 +43,13 @@ pub fn solve<S: Stop>(
     attempt(alloc, problem, key, problem.rungs, stop)
 }
 
+/// The value at which the attempt with this number decides variables.
+fn first_of(number: u8) -> bool
+    ensures { result ≡ first_of number }
+{
+    number % 2 == 1
+}
+
 /// How many clauses the attempt with this number may learn.
 fn allowance_of(problem: &Problem, number: u8) -> u64
     requires { number ≤ problem.now.rungs }
@@ -66,7 +73,7 @@ fn attempt<S: Stop>(
     ensures never_falls { S.raised stop.old ≤ S.raised stop.new }
     ensures stays { S.stays stop.old stop.new }
 {
-    let first = number % 2 == 1;
+    let first = first_of(number);
     let allowance = allowance_of(problem, number);
     let Some(mut search) = Search::new(alloc, problem, key, first, allowance)? else {
         return refuted(alloc, stop);

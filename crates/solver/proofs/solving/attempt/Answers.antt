@@ -1,6 +1,6 @@
 use Rattle.std.proofs.Common.{◌≡◌, ◌∙◌, sym, ap, subst, [], ◌∷◌, Some, arith}
 use Rattle.std.proofs.lemmas.Result.{IfOk-weaker}
-use Rattle.clauses.specs.Search.{Unsat, attempt_of, first_of}
+use Rattle.clauses.specs.Search.{Unsat, attempt_of}
 use Rattle.solver.specs.Answers.{meaning}
 use Rattle.solver.specs.inside.Searching.{Begins, IsTurn}
 use Rattle.solver.proofs.SolveLaws.{going-ends, going-fewer, going-on, refuted-at_start}
@@ -10,7 +10,7 @@ pub returns-in_default-clause-answer : goal.returns-in_default-clause-answer
 returns-in_default-clause-answer g c =
     IfOk-weaker c.refuted.result (λ answer. meaning answer ≡ Unsat ([] ∷ [])) (λ answer. attempt_of c.args.problem.now c.args.key.now c.args.number ≡ Some (meaning answer))
     (λ answer same.
-    refuted-at_start c.args.problem.now c.args.key.now c.args.number (subst (Begins c.args.problem.now c.args.key.now (first_of c.args.number) c.allowance_of-allowance.result) c.in_default.is c.in_ok-search.ensures)
+    refuted-at_start c.args.problem.now c.args.key.now c.args.number (subst (Begins c.args.problem.now c.args.key.now c.first_of-first.result c.allowance_of-allowance.result) c.in_default.is c.in_ok-search.ensures)
     ∙ ap Some (sym same))
     c.refuted.ensures.answer
 
