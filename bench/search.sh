@@ -58,6 +58,7 @@ fn problem_of(clauses: Clauses, variables: u32, alloc: Global) -> Problem
         clauses,
         roots: Lits::new(alloc),
         allowance: 10_000,
+        rungs: 0,
     }
 }
 

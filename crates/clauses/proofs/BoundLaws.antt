@@ -5,9 +5,9 @@ use Rattle.std.proofs.lemmas.Bool.{false≢true, and_parts, eqb-true, cases_eq, 
 use Rattle.std.proofs.lemmas.List.{length_push}
 use Rattle.std.proofs.lemmas.List.Elements.{Contains-append_left, Contains-push, Contains-push_cases}
 use Rattle.clauses.specs.declared.literal.Lit.{Lit}
-use Rattle.clauses.specs.Clause.{positive_of}
+use Rattle.clauses.specs.Clause.{literal_with}
 use Rattle.clauses.specs.Closure.{closure, clash}
-use Rattle.clauses.specs.Search.{Limit, Standing, Turn, GoesOn, Ends, under, all_false, some_true, needed_decisions, cut_after, turn, start, standing_after, answer_within, NameTheSame, NameOthers}
+use Rattle.clauses.specs.Search.{Limit, Standing, Turn, GoesOn, Ends, under, all_with, some_without, needed_decisions, cut_after, turn, start, standing_after, answer_within, NameTheSame, NameOthers}
 use Rattle.lists.proofs.Members.{none, first, later, first_or_later, from_map, to_map}
 use Rattle.lists.proofs.Ranges.{range-below}
 use Rattle.clauses.proofs.TurnLaws.{IsTurn, answers, decides, refutes, gives_up, adds_clause, turn_is, reached, ended}
@@ -81,32 +81,32 @@ pub record IsLow (v : ℕ) (s : Standing) : Type 0 where
   pub decided : (x : ℕ) → Contains s.decisions x → x < v
   pub learned : (e : List Lit) → Contains s.learned e → Below v e
 
-module _ (clauses : List (List Lit)) (v a : ℕ) (s : Standing) (low : IsLow v s) where
-  low_next : (t : Standing) (r : Turn) → r ≡ GoesOn t → IsTurn clauses v a s r → IsLow v t
+module _ (sign : Bool) (clauses : List (List Lit)) (v a : ℕ) (s : Standing) (low : IsLow v s) where
+  low_next : (t : Standing) (r : Turn) → r ≡ GoesOn t → IsTurn sign clauses v a s r → IsLow v t
   low_next t r e (answers c o q) = absurd (cc)
   low_next t r e (decides x xs c o q) =
       let same : (record s { decisions = s.decisions ++ x ∷ [] }) ≡ t = cc in
       subst (IsLow v) same (record {
         decided = λ y m. ⊎_elim
             (λ (old : Contains s.decisions y). low.decided y old)
-            (λ (h : x ≡ y). subst (λ z. z < v) h (range-below v x (open-parts v (closure (under clauses s)) x xs o).0))
+            (λ (h : x ≡ y). subst (λ z. z < v) h (range-below v x (open-parts v (closure (under sign clauses s)) x xs o).0))
             (Contains-push_cases s.decisions x y m);
         learned = low.learned;
       })
   low_next t r e (refutes c o q) = absurd (cc)
   low_next t r e (gives_up c x xs d o q) = absurd (cc)
   low_next t r e (adds_clause c y ys o n q) =
-      let fresh = needed_decisions (clauses ++ s.learned) s.decisions in
-      let next : Standing = record { learned = s.learned ++ some_true fresh ∷ []; decisions = cut_after s.decisions (reverse fresh) } in
+      let fresh = needed_decisions sign (clauses ++ s.learned) s.decisions in
+      let next : Standing = record { learned = s.learned ++ some_without sign fresh ∷ []; decisions = cut_after s.decisions (reverse fresh) } in
       let same : next ≡ t = cc in
       subst (IsLow v) same (record {
         decided = λ x m. low.decided x (cut-within s.decisions (reverse fresh) x m);
         learned = λ e2 m. ⊎_elim
             (λ (old : Contains s.learned e2). low.learned e2 old)
-            (λ (h : some_true fresh ≡ e2). subst (Below v) h (λ l k.
-            let w = from_map positive_of fresh l k in
-            subst (λ x. x < v) (ap (λ j. j.var) w.2) (low.decided w.0 (trimmed-within (λ set. clash ((clauses ++ s.learned) ++ all_false set)) s.decisions w.0 w.1))))
-            (Contains-push_cases s.learned (some_true fresh) e2 m);
+            (λ (h : some_without sign fresh ≡ e2). subst (Below v) h (λ l k.
+            let w = from_map (literal_with (not sign)) fresh l k in
+            subst (λ x. x < v) (ap (λ j. j.var) w.2) (low.decided w.0 (trimmed-within (λ set. clash ((clauses ++ s.learned) ++ all_with sign set)) s.decisions w.0 w.1))))
+            (Contains-push_cases s.learned (some_without sign fresh) e2 m);
       })
 
 start-low : (v : ℕ) → IsLow v start
@@ -114,8 +114,8 @@ start-low v = record { decided = λ x m. absurd (none x m); learned = λ e m. ab
 
 -- ---- the bound
 
-learned-few : (clauses : List (List Lit)) (v : ℕ) (s : Standing) → IsGood clauses s → IsLow v s → length s.learned < 2 ^ v
-learned-few clauses v s good low =
+learned-few : (sign : Bool) (clauses : List (List Lit)) (v : ℕ) (s : Standing) → IsGood sign clauses s → IsLow v s → length s.learned < 2 ^ v
+learned-few sign clauses v s good low =
     let sets = map set_of ([] ∷ s.learned) in
     let some : (g : ℕ → Bool) → Contains (map set_of s.learned) g → agree v (set_of []) g ≡ false =
     λ g m. (let of = from_map set_of s.learned g m in
@@ -126,44 +126,44 @@ learned-few clauses v s good low =
     let size : length (map set_of s.learned) ≡ length s.learned = length-map' set_of s.learned in
     omega arith
 
-abbrev Both : List (List Lit) → ℕ → Standing → Type 0
-Both clauses v s = IsGood clauses s × IsLow v s
+abbrev Both : Bool → List (List Lit) → ℕ → Standing → Type 0
+Both sign clauses v s = IsGood sign clauses s × IsLow v s
 
-module _ (clauses : List (List Lit)) (v a : ℕ) where
-  both_next : (s t : Standing) → Both clauses v s → turn clauses v a s ≡ GoesOn t → Both clauses v t
+module _ (sign : Bool) (clauses : List (List Lit)) (v a : ℕ) where
+  both_next : (s t : Standing) → Both sign clauses v s → turn sign clauses v a s ≡ GoesOn t → Both sign clauses v t
   both_next s t both e = (
-    good_next clauses v a s both.0 t (turn clauses v a s) e (turn_is clauses v a s),
-    low_next clauses v a s both.1 t (turn clauses v a s) e (turn_is clauses v a s),
+    good_next sign clauses v a s both.0 t (turn sign clauses v a s) e (turn_is sign clauses v a s),
+    low_next sign clauses v a s both.1 t (turn sign clauses v a s) e (turn_is sign clauses v a s),
   )
 
-  both_start : Both clauses v start
-  both_start = (start-good clauses, start-low v)
+  both_start : Both sign clauses v start
+  both_start = (start-good sign clauses, start-low v)
 
-  pub reached-few : (n : ℕ) (last : Standing) → standing_after n clauses v a start ≡ Some last → length last.learned < 2 ^ v
-  reached-few n last e = let both = reached clauses v a (Both clauses v) both_next last n start both_start e in learned-few clauses v last both.0 both.1
+  pub reached-few : (n : ℕ) (last : Standing) → standing_after n sign clauses v a start ≡ Some last → length last.learned < 2 ^ v
+  reached-few n last e = let both = reached sign clauses v a (Both sign clauses v) both_next last n start both_start e in learned-few sign clauses v last both.0 both.1
 
-  pub reached-low : (n : ℕ) (last : Standing) → standing_after n clauses v a start ≡ Some last → IsLow v last
-  reached-low n last e = (reached clauses v a (Both clauses v) both_next last n start both_start e).1
+  pub reached-low : (n : ℕ) (last : Standing) → standing_after n sign clauses v a start ≡ Some last → IsLow v last
+  reached-low n last e = (reached sign clauses v a (Both sign clauses v) both_next last n start both_start e).1
 
   -- where the allowance is spent, one more clause could be learned
-  spent : (s : Standing) → Both clauses v s → (r : Turn) → r ≡ Ends Limit → IsTurn clauses v a s r → a + 1 < 2 ^ v
+  spent : (s : Standing) → Both sign clauses v s → (r : Turn) → r ≡ Ends Limit → IsTurn sign clauses v a s r → a + 1 < 2 ^ v
   spent s both r e (answers c o q) = absurd (cc)
   spent s both r e (decides x xs c o q) = absurd (cc)
   spent s both r e (refutes c o q) = absurd (cc)
   spent s both r e (gives_up c x xs d o q) =
-      let fresh = needed_decisions (clauses ++ s.learned) s.decisions in
-      let next : Standing = record { learned = s.learned ++ some_true fresh ∷ []; decisions = cut_after s.decisions (reverse fresh) } in
+      let fresh = needed_decisions sign (clauses ++ s.learned) s.decisions in
+      let next : Standing = record { learned = s.learned ++ some_without sign fresh ∷ []; decisions = cut_after s.decisions (reverse fresh) } in
       let more = suc (length s.learned) in
       let other : eqb (length s.learned) more ≡ false = false_from_ne_true (eqb (length s.learned) more) (λ t. let same = eqb-true (length s.learned) more t in omega arith) in
-      let would : IsTurn clauses v more s (GoesOn next) = adds_clause c x xs d other refl in
-      let few = learned-few clauses v next (good_next clauses v more s both.0 next (GoesOn next) refl would) (low_next clauses v more s both.1 next (GoesOn next) refl would) in
-      let longer : length (s.learned ++ some_true fresh ∷ []) ≡ length s.learned + 1 = length_push s.learned (some_true fresh) in
+      let would : IsTurn sign clauses v more s (GoesOn next) = adds_clause c x xs d other refl in
+      let few = learned-few sign clauses v next (good_next sign clauses v more s both.0 next (GoesOn next) refl would) (low_next sign clauses v more s both.1 next (GoesOn next) refl would) in
+      let longer : length (s.learned ++ some_without sign fresh ∷ []) ≡ length s.learned + 1 = length_push s.learned (some_without sign fresh) in
       let all : length s.learned ≡ a = eqb-true (length s.learned) a o in
       omega arith
   spent s both r e (adds_clause c x xs o n q) = absurd (cc)
 
-  pub never-limit : (n : ℕ) → 2 ^ v ≤ a + 1 → answer_within n clauses v a start ≡ Some Limit → ⊥
+  pub never-limit : (n : ℕ) → 2 ^ v ≤ a + 1 → answer_within n sign clauses v a start ≡ Some Limit → ⊥
   never-limit n enough e =
-      let at = ended clauses v a (Both clauses v) both_next Limit n start both_start e in
-      let less = spent at.0 at.1 (turn clauses v a at.0) at.2 (turn_is clauses v a at.0) in
+      let at = ended sign clauses v a (Both sign clauses v) both_next Limit n start both_start e in
+      let less = spent at.0 at.1 (turn sign clauses v a at.0) at.2 (turn_is sign clauses v a at.0) in
       omega arith

@@ -7,9 +7,9 @@ use Rattle.std.proofs.lemmas.List.Elements.{Contains-append_cases, Contains-push
 use Rattle.pref_sets.specs.Greedy.{set_after}
 use Rattle.pref_sets.specs.Trimmed.{trimmed_of, without_item}
 use Rattle.clauses.specs.declared.literal.Lit.{Lit}
-use Rattle.clauses.specs.Clause.{negation, negative_of, unit_of, is_satisfied, are_satisfied}
+use Rattle.clauses.specs.Clause.{negation, literal_with, unit_of, is_satisfied, are_satisfied}
 use Rattle.clauses.specs.Closure.{clash, follows, AreDerived, IsDerivation}
-use Rattle.clauses.specs.Search.{Unsat, Standing, Turn, GoesOn, Ends, all_false, some_true, needed_decisions, cut_after, turn, answer_within, standing_after, start}
+use Rattle.clauses.specs.Search.{Unsat, Standing, Turn, GoesOn, Ends, all_with, some_without, needed_decisions, cut_after, turn, answer_within, standing_after, start}
 use Rattle.lists.proofs.Members.{all_at, all_from, first_or_later, none}
 use Rattle.clauses.proofs.ClosureLaws.{follows-satisfied}
 use Rattle.clauses.proofs.TurnLaws.{IsTurn, answers, decides, refutes, gives_up, adds_clause, turn_is, ended, reached, after_one_more}
@@ -26,68 +26,70 @@ fold_holds test (x ∷ xs) set h = fold_holds test xs (set_after test without_it
 pub trimmed-holds : (test : List ℕ → Bool) (items : List ℕ) → test items ≡ true → test (trimmed_of test items) ≡ true
 trimmed-holds test items h = fold_holds test (reverse items) items h
 
-negations : (vars : List ℕ) → map (λ l. unit_of (negation l)) (some_true vars) ≡ all_false vars
-negations [] = refl
-negations (x ∷ xs) = ap (λ rest. unit_of (negative_of x) ∷ rest) (negations xs)
+negations : (sign : Bool) (vars : List ℕ) → map (λ l. unit_of (negation l)) (some_without sign vars) ≡ all_with sign vars
+negations true [] = refl
+negations true (x ∷ xs) = ap (λ rest. unit_of (literal_with true x) ∷ rest) (negations true xs)
+negations false [] = refl
+negations false (x ∷ xs) = ap (λ rest. unit_of (literal_with false x) ∷ rest) (negations false xs)
 
-pub learned-follows : (clauses : List (List Lit)) (vars : List ℕ) → clash (clauses ++ all_false vars) ≡ true → follows clauses (some_true vars) ≡ true
-learned-follows clauses vars e = ap (λ units. clash (clauses ++ units)) (negations vars) ∙ e
+pub learned-follows : (sign : Bool) (clauses : List (List Lit)) (vars : List ℕ) → clash (clauses ++ all_with sign vars) ≡ true → follows clauses (some_without sign vars) ≡ true
+learned-follows sign clauses vars e = ap (λ units. clash (clauses ++ units)) (negations sign vars) ∙ e
 
 pub derived-push : (clauses lines : List (List Lit)) (line : List Lit) → AreDerived clauses lines → follows (clauses ++ lines) line ≡ true → AreDerived clauses (lines ++ line ∷ [])
 derived-push clauses [] line d f = (subst (λ c. follows c line ≡ true) (append-nil clauses) f, tt)
 derived-push clauses (l ∷ lines) line d f = (d.0, derived-push (clauses ++ l ∷ []) lines line d.1 (subst (λ c. follows c line ≡ true) (sym (append_assoc clauses (l ∷ []) lines)) f))
 
-module _ (clauses : List (List Lit)) (v a : ℕ) where
-  kept : (s t : Standing) (r : Turn) → AreDerived clauses s.learned → r ≡ GoesOn t → IsTurn clauses v a s r → AreDerived clauses t.learned
+module _ (sign : Bool) (clauses : List (List Lit)) (v a : ℕ) where
+  kept : (s t : Standing) (r : Turn) → AreDerived clauses s.learned → r ≡ GoesOn t → IsTurn sign clauses v a s r → AreDerived clauses t.learned
   kept s t r d e (answers c o q) = absurd (cc)
   kept s t r d e (decides x xs c o q) = let same : (record s { decisions = s.decisions ++ x ∷ [] }) ≡ t = cc in subst (λ u. AreDerived clauses u.learned) same d
   kept s t r d e (refutes c o q) = absurd (cc)
   kept s t r d e (gives_up c x xs o n q) = absurd (cc)
   kept s t r d e (adds_clause c x xs o n q) =
-      let trimmed = needed_decisions (clauses ++ s.learned) s.decisions in
-      let next : Standing = record { learned = s.learned ++ some_true trimmed ∷ []; decisions = cut_after s.decisions (reverse trimmed) } in
+      let trimmed = needed_decisions sign (clauses ++ s.learned) s.decisions in
+      let next : Standing = record { learned = s.learned ++ some_without sign trimmed ∷ []; decisions = cut_after s.decisions (reverse trimmed) } in
       let same : next ≡ t = cc in
       subst (λ u. AreDerived clauses u.learned) same
-      (derived-push clauses s.learned (some_true trimmed) d
-      (learned-follows (clauses ++ s.learned) trimmed (trimmed-holds (λ set. clash ((clauses ++ s.learned) ++ all_false set)) s.decisions c)))
+      (derived-push clauses s.learned (some_without sign trimmed) d
+      (learned-follows sign (clauses ++ s.learned) trimmed (trimmed-holds (λ set. clash ((clauses ++ s.learned) ++ all_with sign set)) s.decisions c)))
 
-  turns_keep : (s t : Standing) → AreDerived clauses s.learned → turn clauses v a s ≡ GoesOn t → AreDerived clauses t.learned
-  turns_keep s t d e = kept s t (turn clauses v a s) d e (turn_is clauses v a s)
+  turns_keep : (s t : Standing) → AreDerived clauses s.learned → turn sign clauses v a s ≡ GoesOn t → AreDerived clauses t.learned
+  turns_keep s t d e = kept s t (turn sign clauses v a s) d e (turn_is sign clauses v a s)
 
-  pub reached-derived : (n : ℕ) (last : Standing) → standing_after n clauses v a start ≡ Some last → AreDerived clauses last.learned
-  reached-derived n last e = reached clauses v a (λ s. AreDerived clauses s.learned) turns_keep last n start tt e
+  pub reached-derived : (n : ℕ) (last : Standing) → standing_after n sign clauses v a start ≡ Some last → AreDerived clauses last.learned
+  reached-derived n last e = reached sign clauses v a (λ s. AreDerived clauses s.learned) turns_keep last n start tt e
 
-  refuted : (s : Standing) (lines : List (List Lit)) (r : Turn) → AreDerived clauses s.learned → r ≡ Ends (Unsat lines) → IsTurn clauses v a s r → IsDerivation clauses lines
+  refuted : (s : Standing) (lines : List (List Lit)) (r : Turn) → AreDerived clauses s.learned → r ≡ Ends (Unsat lines) → IsTurn sign clauses v a s r → IsDerivation clauses lines
   refuted s lines r d e (answers c o q) = absurd (cc)
   refuted s lines r d e (decides x xs c o q) = absurd (cc)
   refuted s lines r d e (refutes c o q) =
       let same : s.learned ++ [] ∷ [] ≡ lines = cc in
-      subst (IsDerivation clauses) same (derived-push clauses s.learned [] d (subst (λ vars. clash ((clauses ++ s.learned) ++ all_false vars) ≡ true) o c), (s.learned, refl))
+      subst (IsDerivation clauses) same (derived-push clauses s.learned [] d (subst (λ vars. clash ((clauses ++ s.learned) ++ all_with sign vars) ≡ true) o c), (s.learned, refl))
   refuted s lines r d e (gives_up c x xs o n q) = absurd (cc)
   refuted s lines r d e (adds_clause c x xs o n q) = absurd (cc)
 
-  pub unsat-derivation : (n : ℕ) (lines : List (List Lit)) → answer_within n clauses v a start ≡ Some (Unsat lines) → IsDerivation clauses lines
+  pub unsat-derivation : (n : ℕ) (lines : List (List Lit)) → answer_within n sign clauses v a start ≡ Some (Unsat lines) → IsDerivation clauses lines
   unsat-derivation n lines e =
-      let at = ended clauses v a (λ s. AreDerived clauses s.learned) turns_keep (Unsat lines) n start tt e in
-      refuted at.0 lines (turn clauses v a at.0) at.1 at.2 (turn_is clauses v a at.0)
+      let at = ended sign clauses v a (λ s. AreDerived clauses s.learned) turns_keep (Unsat lines) n start tt e in
+      refuted at.0 lines (turn sign clauses v a at.0) at.1 at.2 (turn_is sign clauses v a at.0)
 
   -- the standing at which the search ends in Unsat: nothing is decided, and the lines are what is learned and the empty
   -- clause
   abbrev Comes : Standing → Type 0
-  Comes s = (n : ℕ) × (standing_after n clauses v a start ≡ Some s)
+  Comes s = (n : ℕ) × (standing_after n sign clauses v a start ≡ Some s)
 
-  lines_at : (s : Standing) (lines : List (List Lit)) (r : Turn) → r ≡ Ends (Unsat lines) → IsTurn clauses v a s r → (s.decisions ≡ []) × (lines ≡ s.learned ++ [] ∷ [])
+  lines_at : (s : Standing) (lines : List (List Lit)) (r : Turn) → r ≡ Ends (Unsat lines) → IsTurn sign clauses v a s r → (s.decisions ≡ []) × (lines ≡ s.learned ++ [] ∷ [])
   lines_at s lines r e (answers c o q) = absurd (cc)
   lines_at s lines r e (decides x xs c o q) = absurd (cc)
   lines_at s lines r e (refutes c o q) = let same : lines ≡ s.learned ++ [] ∷ [] = cc in (o, same)
   lines_at s lines r e (gives_up c x xs o n q) = absurd (cc)
   lines_at s lines r e (adds_clause c x xs o n q) = absurd (cc)
 
-  pub unsat-lines : (n : ℕ) (lines : List (List Lit)) → answer_within n clauses v a start ≡ Some (Unsat lines)
+  pub unsat-lines : (n : ℕ) (lines : List (List Lit)) → answer_within n sign clauses v a start ≡ Some (Unsat lines)
       → (s : Standing) × Comes s × (s.decisions ≡ []) × (lines ≡ s.learned ++ [] ∷ [])
   unsat-lines n lines e =
-      let at = ended clauses v a Comes (λ s t c g. (suc c.0, after_one_more clauses v a s t g c.0 start c.1)) (Unsat lines) n start (zero, refl) e in
-      let last = lines_at at.0 lines (turn clauses v a at.0) at.2 (turn_is clauses v a at.0) in
+      let at = ended sign clauses v a Comes (λ s t c g. (suc c.0, after_one_more sign clauses v a s t g c.0 start c.1)) (Unsat lines) n start (zero, refl) e in
+      let last = lines_at at.0 lines (turn sign clauses v a at.0) at.2 (turn_is sign clauses v a at.0) in
       (at.0, at.1, last.0, last.1)
 
 -- an assignment of the clauses satisfies each line of a derivation, so there is none where one line is empty

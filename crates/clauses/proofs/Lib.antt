@@ -10,6 +10,7 @@ pub mod TrimmedLaws
 pub mod StandingLaws
 pub mod Cuts
 pub mod KeyRoots
+pub mod AttemptLaws
 pub mod MetLaws
 pub mod AgreeLaws
 pub mod Subsets

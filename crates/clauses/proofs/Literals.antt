@@ -1,9 +1,9 @@
 -- Literals and sets of them.
-use Rattle.std.proofs.Common.{◌≡◌, refl, sym, subst, eqb, Bool, true, false, cond, not, List}
+use Rattle.std.proofs.Common.{◌≡◌, refl, sym, subst, eqb, ℕ, Bool, true, false, cond, not, List}
 use Rattle.std.specs.Prelude.{Contains}
 use Rattle.std.proofs.lemmas.Bool.{false≢true, and_parts, and_from, eqb-true, eq-eqb}
 use Rattle.clauses.specs.declared.literal.Lit.{Lit}
-use Rattle.clauses.specs.Clause.{is_same, has, negation}
+use Rattle.clauses.specs.Clause.{is_same, has, literal_with, negation}
 use Rattle.lists.proofs.Members.{any_from, any_at}
 
 same_sign : (a b : Bool) → cond a b (not b) ≡ true → a ≡ b
@@ -31,6 +31,10 @@ not-not false = refl
 
 pub negation-negation : (l : Lit) → negation (negation l) ≡ l
 negation-negation l = λ i. record { var = l.var; positive = not-not l.positive i }
+
+-- a literal with the other value, negated
+pub negation-other : (sign : Bool) (x : ℕ) → negation (literal_with (not sign) x) ≡ literal_with sign x
+negation-other sign x = λ i. record { var = x; positive = not-not sign i }
 
 pub has-from : (set : List Lit) (l : Lit) → Contains set l → has set l ≡ true
 has-from set l m = any_from (is_same l) set l m (is_same-refl l)

@@ -9,10 +9,10 @@ use Rattle.clauses.specs.declared.literal.Lit.{Lit}
 use Rattle.clauses.specs.Clause.{is_satisfied}
 use Rattle.clauses.specs.Met.{IsMet}
 use Rattle.clauses.specs.Problem.{ClauseProblem, IsProblem, clauses_with}
-use Rattle.clauses.specs.Search.{SearchAnswer, Sat, Unsat, Limit, search_of, turn_count, verdict_of, verdict_on}
+use Rattle.clauses.specs.Search.{SearchAnswer, Sat, Unsat, Limit, allowance_of, first_of, search_of, turn_count, verdict_of, verdict_on}
 use Rattle.lists.proofs.Members.{all_at, all_from}
 use Rattle.clauses.proofs.DerivationLaws.{unsat-derivation, derivation-unsatisfiable}
-use Rattle.clauses.proofs.EnoughLaws.{answers-in_count}
+use Rattle.clauses.proofs.AttemptLaws.{searched, search-of}
 use Rattle.clauses.proofs.KeyRoots.{clauses_with-below, clauses_with-within}
 use Rattle.clauses.proofs.SatLaws.{sat-satisfies}
 
@@ -26,11 +26,8 @@ module _ (problem : ClauseProblem) where
   )
 
   module _ (key : PositionSet) where
-    abbrev count : ℕ
-    count = turn_count problem.variables problem.allowance
-
     answers : (answer : SearchAnswer) × (search_of problem key ≡ Some answer)
-    answers = answers-in_count (clauses_with problem key) problem.variables problem.allowance
+    answers = searched problem key
 
     judged : (answer : SearchAnswer) → search_of problem key ≡ Some answer → verdict_on problem key ≡ Some (verdict_of answer)
     judged answer e = ap (option_map verdict_of) e
@@ -40,11 +37,14 @@ module _ (problem : ClauseProblem) where
 
     unmet : (lines : List (List Lit)) → search_of problem key ≡ Some (Unsat lines) → ¬ IsMet problem key
     unmet lines e (values, sized, all) =
-        derivation-unsatisfiable values (clauses_with problem key) lines (unsat-derivation (clauses_with problem key) problem.variables problem.allowance count lines e) all
+        let of = search-of problem key (Unsat lines) e in
+        derivation-unsatisfiable values (clauses_with problem key) lines
+        (unsat-derivation (first_of of.attempt) (clauses_with problem key) problem.variables (allowance_of problem of.attempt) (turn_count problem.variables (allowance_of problem of.attempt)) lines of.is) all
 
     met : IsProblem problem → (values : List Bool) → search_of problem key ≡ Some (Sat values) → IsMet problem key
     met is values e =
-        let holds = sat-satisfies (clauses_with problem key) problem.variables problem.allowance (clauses_with-below problem key is) count values e in
+        let of = search-of problem key (Sat values) e in
+        let holds = sat-satisfies (first_of of.attempt) (clauses_with problem key) problem.variables (allowance_of problem of.attempt) (clauses_with-below problem key is) (turn_count problem.variables (allowance_of problem of.attempt)) values of.is in
         (values, holds.0, holds.1)
 
     by_sat : IsProblem problem → (answer : SearchAnswer) → search_of problem key ≡ Some answer → verdict_of answer ≡ verdict.Sat → IsMet problem key

@@ -7,7 +7,7 @@ use Rattle.std.proofs.lemmas.List.Elements.{Contains-append_left}
 use Rattle.clauses.specs.declared.literal.Lit.{Lit}
 use Rattle.clauses.specs.Clause.{has, negation, positive_of, negative_of, is_true_in, is_satisfied, are_satisfied}
 use Rattle.clauses.specs.Closure.{closure, clash, is_refuted}
-use Rattle.clauses.specs.Search.{Sat, Standing, Turn, Ends, under, all_false as false_units, open_variables, values_of, turn, answer_within, start}
+use Rattle.clauses.specs.Search.{Sat, Standing, Turn, Ends, under, all_with, open_variables, values_of, turn, answer_within, start}
 use Rattle.clauses.proofs.TurnLaws.{IsTurn, answers, decides, refutes, gives_up, adds_clause, turn_is, ended}
 use Rattle.lists.proofs.Members.{none, any_from, any_none, all_from, all_false, to_filter}
 use Rattle.lists.proofs.Ranges.{range-has}
@@ -51,23 +51,23 @@ rest-satisfies clauses whole v within below no_clash closed =
     let l = all_false (λ l. has (closure whole) (negation l)) clause stands in
     any_from (is_true_in (values_of v (closure whole))) clause l.0 l.1 (true_where v (closure whole) closed l.0 (below clause m l.0 l.1) l.2))
 
-module _ (clauses : List (List Lit)) (v a : ℕ) (below : (clause : List Lit) → Contains clauses clause → (l : Lit) → Contains clause l → l.var < v) where
+module _ (sign : Bool) (clauses : List (List Lit)) (v a : ℕ) (below : (clause : List Lit) → Contains clauses clause → (l : Lit) → Contains clause l → l.var < v) where
   abbrev Holds : List Bool → Type 0
   Holds values = (length values ≡ v) × (are_satisfied values clauses ≡ true)
 
-  answered : (s : Standing) (values : List Bool) (r : Turn) → r ≡ Ends (Sat values) → IsTurn clauses v a s r → Holds values
+  answered : (s : Standing) (values : List Bool) (r : Turn) → r ≡ Ends (Sat values) → IsTurn sign clauses v a s r → Holds values
   answered s values r e (answers c o q) =
-      let same : values_of v (closure (under clauses s)) ≡ values = cc in
+      let same : values_of v (closure (under sign clauses s)) ≡ values = cc in
       subst Holds same (
-        length-values_of v (closure (under clauses s)),
-        rest-satisfies clauses (under clauses s) v (λ clause m. Contains-append_left (clauses ++ s.learned) (false_units s.decisions) clause (Contains-append_left clauses s.learned clause m)) below c o,
+        length-values_of v (closure (under sign clauses s)),
+        rest-satisfies clauses (under sign clauses s) v (λ clause m. Contains-append_left (clauses ++ s.learned) (all_with sign s.decisions) clause (Contains-append_left clauses s.learned clause m)) below c o,
       )
   answered s values r e (decides x xs c o q) = absurd (cc)
   answered s values r e (refutes c o q) = absurd (cc)
   answered s values r e (gives_up c x xs d o q) = absurd (cc)
   answered s values r e (adds_clause c x xs o n q) = absurd (cc)
 
-  pub sat-satisfies : (n : ℕ) (values : List Bool) → answer_within n clauses v a start ≡ Some (Sat values) → Holds values
+  pub sat-satisfies : (n : ℕ) (values : List Bool) → answer_within n sign clauses v a start ≡ Some (Sat values) → Holds values
   sat-satisfies n values e =
-      let at = ended clauses v a (λ s. Unit {0}) (λ s t p f. tt) (Sat values) n start tt e in
-      answered at.0 values (turn clauses v a at.0) at.2 (turn_is clauses v a at.0)
+      let at = ended sign clauses v a (λ s. Unit {0}) (λ s t p f. tt) (Sat values) n start tt e in
+      answered at.0 values (turn sign clauses v a at.0) at.2 (turn_is sign clauses v a at.0)

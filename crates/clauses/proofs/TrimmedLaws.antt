@@ -9,9 +9,9 @@ use Rattle.pref_sets.specs.Preferred.{IsDistinct, IsWithin}
 use Rattle.pref_sets.proofs.GreedyLaws.{IsGreedy-greedy_of}
 use Rattle.pref_sets.proofs.BestLaws.{IsTrimmed-minimal}
 use Rattle.clauses.specs.declared.literal.Lit.{Lit}
-use Rattle.clauses.specs.Clause.{has, is_same, negation, positive_of, negative_of, unit_of}
+use Rattle.clauses.specs.Clause.{has, is_same, negation, literal_with, unit_of}
 use Rattle.clauses.specs.Closure.{closure, clash, is_forcing, is_refuted}
-use Rattle.clauses.specs.Search.{all_false}
+use Rattle.clauses.specs.Search.{all_with}
 use Rattle.lists.proofs.Members.{none, first, first_or_later, any_from, any_at, all_at, all_from, from_filter, to_filter, from_map, to_map}
 use Rattle.clauses.proofs.Literals.{is_same-eq, is_same-refl, has-from, from_has}
 use Rattle.clauses.proofs.LeastLaws.{closure-has, closure-closed, closure-least, closure-among}
@@ -93,75 +93,75 @@ trimmed-within test items = part-within items (trimmed_of test items) (trimmed-p
 from_unit : (l k : Lit) → Contains (unit_of l) k → l ≡ k
 from_unit l k m = ⊎_elim (λ (e : l ≡ k). e) (λ (no : Contains [] k). absurd (none k no)) (first_or_later l [] k m)
 
-module _ (known : List (List Lit)) (decisions : List ℕ) (distinct : IsDistinct decisions) (clashes : clash (known ++ all_false decisions) ≡ true) where
+module _ (sign : Bool) (known : List (List Lit)) (decisions : List ℕ) (distinct : IsDistinct decisions) (clashes : clash (known ++ all_with sign decisions) ≡ true) where
   abbrev test : List ℕ → Bool
-  test set = clash (known ++ all_false set)
+  test set = clash (known ++ all_with sign set)
 
   abbrev pub trimmed : List ℕ
   trimmed = trimmed_of test decisions
 
-  false_units : (a b : List ℕ) → IsWithin a b → (clause : List Lit) → Contains (known ++ all_false a) clause → Contains (known ++ all_false b) clause
+  false_units : (a b : List ℕ) → IsWithin a b → (clause : List Lit) → Contains (known ++ all_with sign a) clause → Contains (known ++ all_with sign b) clause
   false_units a b within clause m =
       ⊎_elim
-      (λ (old : Contains known clause). Contains-append_left known (all_false b) clause old)
-      (λ (new : Contains (all_false a) clause).
-      let of = from_map (λ x. unit_of (negative_of x)) a clause new in
-      Contains-append_right known (all_false b) clause (subst (Contains (all_false b)) of.2 (to_map (λ x. unit_of (negative_of x)) b of.0 (within of.0 of.1))))
-      (Contains-append_cases known (all_false a) clause m)
+      (λ (old : Contains known clause). Contains-append_left known (all_with sign b) clause old)
+      (λ (new : Contains (all_with sign a) clause).
+      let of = from_map (λ x. unit_of (literal_with sign x)) a clause new in
+      Contains-append_right known (all_with sign b) clause (subst (Contains (all_with sign b)) of.2 (to_map (λ x. unit_of (literal_with sign x)) b of.0 (within of.0 of.1))))
+      (Contains-append_cases known (all_with sign a) clause m)
 
   monotone : (a b : List ℕ) → IsWithin a b → IsTrue (test a) → IsTrue (test b)
-  monotone a b within e = clash-more (known ++ all_false a) (known ++ all_false b) (false_units a b within) e
+  monotone a b within e = clash-more (known ++ all_with sign a) (known ++ all_with sign b) (false_units a b within) e
 
   minimal : (other : List ℕ) → IsWithin other trimmed → IsTrue (test other) → IsWithin trimmed other
   minimal = IsTrimmed-minimal (λ set. IsTrue (test set)) monotone decisions trimmed distinct (IsGreedy-greedy_of test without_item (reverse decisions) decisions)
 
-  module _ (z : ℕ) (false_already : Contains (closure known) (negative_of z)) where
+  module _ (z : ℕ) (false_already : Contains (closure known) (literal_with sign z)) where
     abbrev rest : List ℕ
     rest = without_item trimmed z
 
     abbrev whole : List (List Lit)
-    whole = known ++ all_false trimmed
+    whole = known ++ all_with sign trimmed
 
     abbrev fewer : List (List Lit)
-    fewer = known ++ all_false rest
+    fewer = known ++ all_with sign rest
 
     in_fewer : (clause : List Lit) → Contains known clause → Contains fewer clause
-    in_fewer clause m = Contains-append_left known (all_false rest) clause m
+    in_fewer clause m = Contains-append_left known (all_with sign rest) clause m
 
-    others_in_fewer : (y : ℕ) → Contains trimmed y → (y ≡ z → ⊥) → Contains fewer (unit_of (negative_of y))
+    others_in_fewer : (y : ℕ) → Contains trimmed y → (y ≡ z → ⊥) → Contains fewer (unit_of (literal_with sign y))
     others_in_fewer y m other =
-        Contains-append_right known (all_false rest) (unit_of (negative_of y)) (to_map (λ x. unit_of (negative_of x)) rest y (to_filter (λ x. not (eqb x z)) trimmed y m (apart (eqb y z) refl)))
+        Contains-append_right known (all_with sign rest) (unit_of (literal_with sign y)) (to_map (λ x. unit_of (literal_with sign x)) rest y (to_filter (λ x. not (eqb x z)) trimmed y m (apart (eqb y z) refl)))
       where
         apart : (b : Bool) → eqb y z ≡ b → not b ≡ true
         apart true e = absurd (other (eqb-true y z e))
         apart false e = refl
 
-    z_false : Contains (closure fewer) (negative_of z)
-    z_false = closure-more known fewer in_fewer (negative_of z) false_already
+    z_false : Contains (closure fewer) (literal_with sign z)
+    z_false = closure-more known fewer in_fewer (literal_with sign z) false_already
 
     whole_within : (l : Lit) → Contains (closure whole) l → Contains (closure fewer) l
     whole_within =
         closure-least whole (Contains (closure fewer)) (λ clause l m n others.
         ⊎_elim
         (λ (old : Contains known clause). closure-closed fewer clause l (in_fewer clause old) n others)
-        (λ (new : Contains (all_false trimmed) clause).
-        let of = from_map (λ x. unit_of (negative_of x)) trimmed clause new in
-        let same : negative_of of.0 ≡ l = from_unit (negative_of of.0) l (subst (λ c. Contains c l) (sym of.2) n) in
+        (λ (new : Contains (all_with sign trimmed) clause).
+        let of = from_map (λ x. unit_of (literal_with sign x)) trimmed clause new in
+        let same : literal_with sign of.0 ≡ l = from_unit (literal_with sign of.0) l (subst (λ c. Contains c l) (sym of.2) n) in
         ⊎_elim
-        (λ (e : of.0 ≡ z). subst (Contains (closure fewer)) (ap negative_of (sym e) ∙ same) z_false)
+        (λ (e : of.0 ≡ z). subst (Contains (closure fewer)) (ap (literal_with sign) (sym e) ∙ same) z_false)
         (λ (other : of.0 ≡ z → ⊥). closure-closed fewer clause l (subst (Contains fewer) of.2 (others_in_fewer of.0 of.1 other)) n others)
         (cases_eq of.0 z))
-        (Contains-append_cases known (all_false trimmed) clause m))
+        (Contains-append_cases known (all_with sign trimmed) clause m))
 
     -- the clause that made it false is refuted, where it is true too
-    by_reason : Contains (closure fewer) (positive_of z) → test rest ≡ true
+    by_reason : Contains (closure fewer) (literal_with (not sign) z) → test rest ≡ true
     by_reason t =
-        let why = reason known (negative_of z) false_already in
+        let why = reason known (literal_with sign z) false_already in
         clash-from_refuted fewer why.0 (in_fewer why.0 why.1) (λ o inside.
         ⊎_elim
-        (λ (same : is_same (negative_of z) o ≡ true). subst (λ k. Contains (closure fewer) (negation k)) (is_same-eq (negative_of z) o same) t)
+        (λ (same : is_same (literal_with sign z) o ≡ true). subst (λ k. Contains (closure fewer) (negation k)) (is_same-eq (literal_with sign z) o same) t)
         (λ (negated : has (closure known) (negation o) ≡ true). closure-more known fewer in_fewer (negation o) (from_has (closure known) (negation o) negated))
-        (or_cases (is_same (negative_of z) o) (has (closure known) (negation o)) (all_at (λ k. is_same (negative_of z) k || has (closure known) (negation k)) why.0 o why.3 inside)))
+        (or_cases (is_same (literal_with sign z) o) (has (closure known) (negation o)) (all_at (λ k. is_same (literal_with sign z) k || has (closure known) (negation k)) why.0 o why.3 inside)))
 
     rest_clashes : test rest ≡ true
     rest_clashes =
@@ -169,14 +169,14 @@ module _ (known : List (List Lit)) (decisions : List ℕ) (distinct : IsDistinct
         let refuted : (l : Lit) → Contains g.0 l → Contains (closure fewer) (negation l) = λ l n. whole_within (negation l) (g.2 l n) in
         ⊎_elim
         (λ (old : Contains known g.0). clash-from_refuted fewer g.0 (in_fewer g.0 old) refuted)
-        (λ (new : Contains (all_false trimmed) g.0).
-        let of = from_map (λ x. unit_of (negative_of x)) trimmed g.0 new in
+        (λ (new : Contains (all_with sign trimmed) g.0).
+        let of = from_map (λ x. unit_of (literal_with sign x)) trimmed g.0 new in
         ⊎_elim
         (λ (e : of.0 ≡ z).
-        by_reason (subst (λ y. Contains (closure fewer) (positive_of y)) e (refuted (negative_of of.0) (subst (λ c. Contains c (negative_of of.0)) of.2 (first (negative_of of.0) [])))))
+        by_reason (subst (λ y. Contains (closure fewer) (literal_with (not sign) y)) e (refuted (literal_with sign of.0) (subst (λ c. Contains c (literal_with sign of.0)) of.2 (first (literal_with sign of.0) [])))))
         (λ (other : of.0 ≡ z → ⊥). clash-from_refuted fewer g.0 (subst (Contains fewer) of.2 (others_in_fewer of.0 of.1 other)) refuted)
         (cases_eq of.0 z))
-        (Contains-append_cases known (all_false trimmed) g.0 g.1)
+        (Contains-append_cases known (all_with sign trimmed) g.0 g.1)
 
     rest_within : IsWithin rest trimmed
     rest_within y m = (from_filter (λ x. not (eqb x z)) trimmed y m).0

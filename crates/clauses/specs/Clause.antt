@@ -11,6 +11,10 @@ positive_of var = record { var = var; positive = true }
 abbrev pub negative_of : ℕ → Lit
 negative_of var = record { var = var; positive = false }
 
+-- the literal that says the variable has this value
+abbrev pub literal_with : Bool → ℕ → Lit
+literal_with value var = record { var = var; positive = value }
+
 -- the same variable with the other sign
 abbrev pub negation : Lit → Lit
 negation literal = record { var = literal.var; positive = not literal.positive }

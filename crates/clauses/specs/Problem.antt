@@ -5,13 +5,15 @@ use Rattle.clauses.specs.declared.literal.Lit.{Lit}
 use Rattle.clauses.specs.Clause.{unit_of}
 
 -- the variables are the numbers below `variables`, those below `features` the features of a model; each requirement
--- has a root, which isn't asserted; at most `allowance` clauses may be learned
+-- has a root, which isn't asserted; the first attempt of a search may learn `allowance` clauses, and `rungs` more attempts
+-- may follow
 pub record ClauseProblem : Type 0 where
   pub variables : ℕ
   pub features : ℕ
   pub clauses : List (List Lit)
   pub roots : List Lit
   pub allowance : ℕ
+  pub rungs : ℕ
 
 -- the literal's variable is below this number
 abbrev pub IsBelow : ℕ → Lit → Type 0
@@ -24,6 +26,7 @@ pub record IsProblem (problem : ClauseProblem) : Type 0 where
   pub roots_below : All (IsBelow problem.variables) problem.roots
   pub few_roots : length problem.roots ≤ 4096
   pub few_learned : problem.allowance ≤ 2 ^ 40
+  pub few_rungs : problem.rungs ≤ 4
 
 -- the roots of the requirements at the key's positions, counted from 1
 abbrev pub roots_at : ClauseProblem → PositionSet → List Lit

@@ -1,13 +1,14 @@
--- The search with learning, turn by turn. Own to this project. It decides variables false, the lowest first, and
--- learns from each clash which decisions can't stand together: the trimmed set of the decisions for 'clash'.
-use Rattle.std.specs.Prelude.{◌≡◌, ◌↔◌, Contains, ℕ, zero, suc, ◌+◌, ◌*◌, Bool, true, false, not, ◌&&◌, ◌==◌, List, [], ◌∷◌, ◌++◌, length, filter, map, reverse, if◌then◌else◌, Option, Some, None, option_map}
+-- The search with learning, turn by turn. Own to this project. It gives variables a first value, the lowest first, and
+-- learns from each clash which decisions can't stand together: the trimmed set of the decisions for 'clash'. A search
+-- that spends its allowance is begun again, with ten times the allowance and the other first value.
+use Rattle.std.specs.Prelude.{◌≡◌, ◌↔◌, Contains, ℕ, zero, suc, ◌+◌, ◌*◌, ◌%◌, ◌^◌, min, Bool, true, false, not, ◌&&◌, ◌==◌, List, [], ◌∷◌, ◌++◌, length, filter, map, reverse, if◌then◌else◌, Option, Some, None, option_map}
 use Rattle.std.specs.List.{range_with_len}
 use Rattle.req_keys.specs.Key.{PositionSet}
 use Rattle.req_keys.specs.declared.verdict.Verdict.{Verdict}
 use Rattle.req_keys.specs.declared.verdict.Verdict.TheVariants as verdict
 use Rattle.pref_sets.specs.Trimmed.{trimmed_of}
 use Rattle.clauses.specs.declared.literal.Lit.{Lit}
-use Rattle.clauses.specs.Clause.{has, positive_of, negative_of, unit_of}
+use Rattle.clauses.specs.Clause.{has, positive_of, negative_of, literal_with, unit_of}
 use Rattle.clauses.specs.Closure.{closure, clash}
 use Rattle.clauses.specs.Problem.{ClauseProblem, clauses_with}
 
@@ -18,7 +19,8 @@ pub data SearchAnswer : Type 0 where
   Unsat : List (List Lit) → SearchAnswer
   Limit : SearchAnswer
 
--- what stands between two turns: the learned clauses, and the decisions, variables that are taken to be false
+-- what stands between two turns: the learned clauses, and the decisions, variables that are taken to have the first
+-- value
 pub record Standing : Type 0 where
   pub learned : List (List Lit)
   pub decisions : List ℕ
@@ -28,13 +30,13 @@ pub data Turn : Type 0 where
   GoesOn : Standing → Turn
   Ends : SearchAnswer → Turn
 
--- the variables as false, each in a clause of its own
-abbrev pub all_false : List ℕ → List (List Lit)
-all_false variables = map (λ variable. unit_of (negative_of variable)) variables
+-- the variables with this value, each in a clause of its own
+abbrev pub all_with : Bool → List ℕ → List (List Lit)
+all_with value variables = map (λ variable. unit_of (literal_with value variable)) variables
 
--- at least one of the variables is true
-abbrev pub some_true : List ℕ → List Lit
-some_true variables = map positive_of variables
+-- at least one of the variables hasn't this value
+abbrev pub some_without : Bool → List ℕ → List Lit
+some_without value variables = map (λ variable. literal_with (not value) variable) variables
 
 -- the variables of which the set has no literal, ascending
 abbrev pub open_variables : ℕ → List Lit → List ℕ
@@ -55,54 +57,54 @@ abbrev pub cut_after : List ℕ → List ℕ → List ℕ
 cut_after decisions (last ∷ before ∷ others) = up_to before decisions
 cut_after decisions others = []
 
--- the decisions that a clash needs
-abbrev pub needed_decisions : List (List Lit) → List ℕ → List ℕ
-needed_decisions clauses decisions = trimmed_of (λ set. clash (clauses ++ all_false set)) decisions
+-- the decisions that a clash needs, for a first value
+abbrev pub needed_decisions : Bool → List (List Lit) → List ℕ → List ℕ
+needed_decisions first clauses decisions = trimmed_of (λ set. clash (clauses ++ all_with first set)) decisions
 
--- no clash: where each variable has a value they are the answer, and else the lowest without one is decided false
+-- no clash: where each variable has a value they are the answer, and else the lowest without one is decided
 abbrev pub turn_at_rest : ℕ → List Lit → Standing → Turn
 turn_at_rest variables set now = elim (open_variables variables set) [
   | [] ↦ Ends (Sat (values_of variables set))
   | lowest ∷ others ↦ GoesOn (record now { decisions = now.decisions ++ lowest ∷ [] })
 ]
 
--- the learned clause says that the trimmed decisions aren't all false
-abbrev pub turn_at_learning : Standing → List ℕ → Turn
-turn_at_learning now trimmed = GoesOn (record { learned = now.learned ++ some_true trimmed ∷ []; decisions = cut_after now.decisions (reverse trimmed) })
+-- the learned clause says that not all of the trimmed decisions have the first value
+abbrev pub turn_at_learning : Bool → Standing → List ℕ → Turn
+turn_at_learning first now trimmed = GoesOn (record { learned = now.learned ++ some_without first trimmed ∷ []; decisions = cut_after now.decisions (reverse trimmed) })
 
-abbrev pub turn_at_clash : List (List Lit) → ℕ → Standing → Turn
-turn_at_clash clauses allowance now = elim now.decisions [
+abbrev pub turn_at_clash : Bool → List (List Lit) → ℕ → Standing → Turn
+turn_at_clash first clauses allowance now = elim now.decisions [
   | [] ↦ Ends (Unsat (now.learned ++ [] ∷ []))
-  | first ∷ others ↦ elim (length now.learned == allowance) [
+  | earliest ∷ others ↦ elim (length now.learned == allowance) [
     | true ↦ Ends Limit
-    | false ↦ turn_at_learning now (needed_decisions (clauses ++ now.learned) now.decisions)
+    | false ↦ turn_at_learning first now (needed_decisions first (clauses ++ now.learned) now.decisions)
   ]
 ]
 
 -- what a turn propagates: the clauses, what is learned, and the decisions
-abbrev pub under : List (List Lit) → Standing → List (List Lit)
-under clauses now = (clauses ++ now.learned) ++ all_false now.decisions
+abbrev pub under : Bool → List (List Lit) → Standing → List (List Lit)
+under first clauses now = (clauses ++ now.learned) ++ all_with first now.decisions
 
--- a turn, for the clauses, the number of variables and the allowance
-abbrev pub turn : List (List Lit) → ℕ → ℕ → Standing → Turn
-turn clauses variables allowance now = elim (clash (under clauses now)) [
-  | true ↦ turn_at_clash clauses allowance now
-  | false ↦ turn_at_rest variables (closure (under clauses now)) now
+-- a turn, for the first value, the clauses, the number of variables and the allowance
+abbrev pub turn : Bool → List (List Lit) → ℕ → ℕ → Standing → Turn
+turn first clauses variables allowance now = elim (clash (under first clauses now)) [
+  | true ↦ turn_at_clash first clauses allowance now
+  | false ↦ turn_at_rest variables (closure (under first clauses now)) now
 ]
 
 -- the answer after at most so many turns
-abbrev pub answer_within : ℕ → List (List Lit) → ℕ → ℕ → Standing → Option SearchAnswer
-answer_within zero clauses variables allowance now = None
-answer_within (suc count) clauses variables allowance now = elim (turn clauses variables allowance now) [
-  | GoesOn next ↦ answer_within count clauses variables allowance next
+abbrev pub answer_within : ℕ → Bool → List (List Lit) → ℕ → ℕ → Standing → Option SearchAnswer
+answer_within zero first clauses variables allowance now = None
+answer_within (suc count) first clauses variables allowance now = elim (turn first clauses variables allowance now) [
+  | GoesOn next ↦ answer_within count first clauses variables allowance next
   | Ends answer ↦ Some answer
 ]
 
 -- what stands after so many turns, if the search goes on for as many
-abbrev pub standing_after : ℕ → List (List Lit) → ℕ → ℕ → Standing → Option Standing
-standing_after zero clauses variables allowance now = Some now
-standing_after (suc count) clauses variables allowance now = elim (turn clauses variables allowance now) [
-  | GoesOn next ↦ standing_after count clauses variables allowance next
+abbrev pub standing_after : ℕ → Bool → List (List Lit) → ℕ → ℕ → Standing → Option Standing
+standing_after zero first clauses variables allowance now = Some now
+standing_after (suc count) first clauses variables allowance now = elim (turn first clauses variables allowance now) [
+  | GoesOn next ↦ standing_after count first clauses variables allowance next
   | Ends answer ↦ None
 ]
 
@@ -114,13 +116,41 @@ turn_count variables allowance = (allowance + 1) * (variables + 1)
 abbrev pub start : Standing
 start = record { learned = []; decisions = [] }
 
+-- the search on the problem for the key, with an allowance and a first value
+abbrev pub search_with : ClauseProblem → PositionSet → ℕ → Bool → Option SearchAnswer
+search_with problem key allowance first = answer_within (turn_count problem.variables allowance) first (clauses_with problem key) problem.variables allowance start
+
+-- how many clauses an attempt may learn: each ten times as many as the one before it, up to a limit
+abbrev pub allowance_of : ClauseProblem → ℕ → ℕ
+allowance_of problem number = min (problem.allowance * 10 ^ number) (2 ^ 40)
+
+-- the first value of an attempt: false for the one with number 0, and then they take turns
+abbrev pub first_of : ℕ → Bool
+first_of number = number % 2 == 1
+
+-- the attempt with this number
+abbrev pub attempt_of : ClauseProblem → PositionSet → ℕ → Option SearchAnswer
+attempt_of problem key number = search_with problem key (allowance_of problem number) (first_of number)
+
+-- the answer of the first attempt from this one on that isn't Limit; so many more may follow it
+abbrev pub answer_from : ℕ → ClauseProblem → PositionSet → ℕ → Option SearchAnswer
+answer_from zero problem key number = attempt_of problem key number
+answer_from (suc more) problem key number = elim (attempt_of problem key number) [
+  | None ↦ None
+  | Some answer ↦ elim answer [
+    | Sat values ↦ Some (Sat values)
+    | Unsat derivation ↦ Some (Unsat derivation)
+    | Limit ↦ answer_from more problem key (number + 1)
+  ]
+]
+
 -- the search on the problem for the key
 abbrev pub search_of : ClauseProblem → PositionSet → Option SearchAnswer
-search_of problem key = answer_within (turn_count problem.variables problem.allowance) (clauses_with problem key) problem.variables problem.allowance start
+search_of problem key = answer_from problem.rungs problem key 0
 
--- the search on the problem for the key comes to this standing
-abbrev pub IsReached : ClauseProblem → PositionSet → Standing → Type 0
-IsReached problem key now = (count : ℕ) × (standing_after count (clauses_with problem key) problem.variables problem.allowance start ≡ Some now)
+-- in the attempt with this number the search on the problem for the key comes to this standing
+abbrev pub IsReached : ClauseProblem → PositionSet → ℕ → Standing → Type 0
+IsReached problem key number now = (count : ℕ) × (standing_after count (first_of number) (clauses_with problem key) problem.variables (allowance_of problem number) start ≡ Some now)
 
 -- the two clauses name the same variables
 abbrev pub NameTheSame : List Lit → List Lit → Type 0

@@ -5,10 +5,13 @@ use Rattle.req_keys.specs.declared.verdict.Verdict.TheVariants as verdict
 use Rattle.clauses.specs.declared.literal.Lit.{Lit}
 use Rattle.clauses.specs.Clause.{positive_of as yes, negative_of as no, negation}
 use Rattle.clauses.specs.Problem.{ClauseProblem}
-use Rattle.clauses.specs.Search.{Sat, Unsat, Limit, GoesOn, search_of, verdict_on, turn}
+use Rattle.clauses.specs.Search.{Sat, Unsat, Limit, GoesOn, allowance_of, search_of, verdict_on, turn}
 
 abbrev problem_of : ℕ → ℕ → List (List Lit) → List Lit → ℕ → ClauseProblem
-problem_of variables features clauses roots allowance = record { variables = variables; features = features; clauses = clauses; roots = roots; allowance = allowance }
+problem_of variables features clauses roots allowance = record { variables = variables; features = features; clauses = clauses; roots = roots; allowance = allowance; rungs = 0 }
+
+abbrev with_rungs : ℕ → ClauseProblem → ClauseProblem
+with_rungs rungs problem = record problem { rungs = rungs }
 
 abbrev key_of : ℕ → List ℕ → PositionSet
 key_of n members = record { n = n; members = members }
@@ -52,7 +55,7 @@ both_roots = refl
 abbrev one_or_three : List (List Lit)
 one_or_three = (yes 1 ∷ yes 3 ∷ yes 4 ∷ []) ∷ (yes 1 ∷ yes 3 ∷ no 4 ∷ []) ∷ []
 
-pub cut : turn one_or_three 5 1 (record { learned = []; decisions = 0 ∷ 1 ∷ 2 ∷ 3 ∷ [] }) ≡ GoesOn (record { learned = (yes 1 ∷ yes 3 ∷ []) ∷ []; decisions = 0 ∷ 1 ∷ [] })
+pub cut : turn false one_or_three 5 1 (record { learned = []; decisions = 0 ∷ 1 ∷ 2 ∷ 3 ∷ [] }) ≡ GoesOn (record { learned = (yes 1 ∷ yes 3 ∷ []) ∷ []; decisions = 0 ∷ 1 ∷ [] })
 cut = refl
 
 pub cut-answer : search_of (problem_of 5 5 one_or_three [] 1) no_requirements ≡ Some (Sat (false ∷ false ∷ false ∷ true ∷ false ∷ []))
@@ -65,7 +68,7 @@ three_needed =
     (yes 0 ∷ yes 2 ∷ yes 4 ∷ yes 5 ∷ []) ∷ (yes 0 ∷ yes 2 ∷ yes 4 ∷ no 5 ∷ [])
     ∷ (yes 0 ∷ no 4 ∷ yes 5 ∷ []) ∷ (yes 0 ∷ no 4 ∷ no 5 ∷ []) ∷ []
 
-pub three-learned : turn three_needed 6 2 (record { learned = []; decisions = 0 ∷ 1 ∷ 2 ∷ 3 ∷ 4 ∷ [] }) ≡ GoesOn (record { learned = (yes 0 ∷ yes 2 ∷ yes 4 ∷ []) ∷ []; decisions = 0 ∷ 1 ∷ 2 ∷ [] })
+pub three-learned : turn false three_needed 6 2 (record { learned = []; decisions = 0 ∷ 1 ∷ 2 ∷ 3 ∷ 4 ∷ [] }) ≡ GoesOn (record { learned = (yes 0 ∷ yes 2 ∷ yes 4 ∷ []) ∷ []; decisions = 0 ∷ 1 ∷ 2 ∷ [] })
 three-learned = refl
 
 pub three-one_allowed : search_of (problem_of 6 6 three_needed [] 1) no_requirements ≡ Some Limit
@@ -138,6 +141,44 @@ cube-two_allowed = refl
 
 pub cube-three_allowed : search_of (problem_of 12 4 cube [] 3) no_requirements ≡ Some (Unsat ((yes 1 ∷ yes 2 ∷ []) ∷ (yes 1 ∷ []) ∷ (yes 2 ∷ []) ∷ [] ∷ []))
 cube-three_allowed = refl
+
+-- ---- attempts
+
+-- the second attempt decides the first open variable true, and with it the product is there
+pub two-second_attempt : search_of (with_rungs 1 (problem_of 5 3 two_constraints [] 0)) no_requirements ≡ Some (Sat (true ∷ true ∷ true ∷ true ∷ true ∷ []))
+two-second_attempt = refl
+
+-- with an allowance of 0 no attempt may learn anything
+pub four-no_attempt : search_of (with_rungs 4 (problem_of 7 3 four_constraints [] 0)) no_requirements ≡ Some Limit
+four-no_attempt = refl
+
+-- an attempt that answers is the last
+pub two-first_attempt : search_of (with_rungs 4 (problem_of 5 3 two_constraints [] 1)) no_requirements ≡ Some (Sat (true ∷ true ∷ false ∷ true ∷ true ∷ []))
+two-first_attempt = refl
+
+-- the cube: the second attempt may learn ten clauses, and learns what can't all be true
+pub cube-one_second : search_of (with_rungs 1 (problem_of 12 4 cube [] 1)) no_requirements ≡ Some (Unsat ((no 1 ∷ no 2 ∷ []) ∷ (no 1 ∷ []) ∷ (no 2 ∷ []) ∷ [] ∷ []))
+cube-one_second = refl
+
+pub cube-none_second : search_of (with_rungs 1 (problem_of 12 4 cube [] 0)) no_requirements ≡ Some Limit
+cube-none_second = refl
+
+pub cube-two_second : search_of (with_rungs 1 (problem_of 12 4 cube [] 2)) no_requirements ≡ Some (Unsat ((no 1 ∷ no 2 ∷ []) ∷ (no 1 ∷ []) ∷ (no 2 ∷ []) ∷ [] ∷ []))
+cube-two_second = refl
+
+pub cube-three_second : search_of (with_rungs 1 (problem_of 12 4 cube [] 3)) no_requirements ≡ Some (Unsat ((yes 1 ∷ yes 2 ∷ []) ∷ (yes 1 ∷ []) ∷ (yes 2 ∷ []) ∷ [] ∷ []))
+cube-three_second = refl
+
+-- a turn with the other first value: of the decisions 0, 1 and 2, all true, the clash needs 0 and 2
+pub turn-true : turn true ((no 0 ∷ no 2 ∷ []) ∷ []) 3 1 (record { learned = []; decisions = 0 ∷ 1 ∷ 2 ∷ [] }) ≡ GoesOn (record { learned = (no 0 ∷ no 2 ∷ []) ∷ []; decisions = 0 ∷ [] })
+turn-true = refl
+
+-- the allowance is capped
+pub allowance-capped : allowance_of (problem_of 1 1 [] [] 1099511627776) 1 ≡ 1099511627776
+allowance-capped = refl
+
+pub allowance-second : allowance_of (problem_of 1 1 [] [] 7) 2 ≡ 700
+allowance-second = refl
 
 -- the phone: Phone 0 has a mandatory Screen 1, which is Basic 2 or Colour 3, and optional Camera 4 and GPS 5. 6 is
 -- 'at least one of Basic', 7 and 8 'at least one' and 'at least two of Basic and Colour'. 9 is 'Camera => Colour'

@@ -14,9 +14,9 @@ mod problem;
 
 pub use builder::ClauseBuilder;
 pub use laws::{
-    LiteralProperty, closure_is_least, learned_clauses_name_others, limit_is_a_spent_allowance,
-    sat_is_an_assignment, search_ends, trimmed_decisions_have_a_member, unsat_is_derived,
-    what_follows_is_true,
+    LiteralProperty, answer_is_of_the_first_attempt, closure_is_least, learned_clauses_name_others,
+    limit_is_a_spent_allowance, sat_is_an_assignment, search_ends, trimmed_decisions_have_a_member,
+    unsat_is_derived, what_follows_is_true,
 };
 pub use letters::{clause_of, clauses_of, literal_of};
 pub use literal::{Clause, Clauses, Derivation, Lit, Lits};

@@ -17,8 +17,10 @@ pub struct Problem {
     pub clauses: Clauses,
     /// A literal for each requirement, in order, at most 4,096. It isn't asserted.
     pub roots: Lits,
-    /// At most 2^40.
+    /// How many clauses the first attempt of a search may learn, at most 2^40.
     pub allowance: u64,
+    /// How many attempts may follow it, at most 4, each with ten times the allowance of the one before it.
+    pub rungs: u8,
 }
 
 impl Model for Problem {
@@ -26,9 +28,9 @@ impl Model for Problem {
 
     ghost Value = { ClauseProblem };
 
-    ghost view = { λ a. record { variables = a.variables; features = a.features; clauses = a.clauses; roots = a.roots; allowance = a.allowance } };
+    ghost view = { λ a. record { variables = a.variables; features = a.features; clauses = a.clauses; roots = a.roots; allowance = a.allowance; rungs = a.rungs } };
 
-    ghost invariant = { λ a. IsProblem (record { variables = a.variables; features = a.features; clauses = a.clauses; roots = a.roots; allowance = a.allowance }) };
+    ghost invariant = { λ a. IsProblem (record { variables = a.variables; features = a.features; clauses = a.clauses; roots = a.roots; allowance = a.allowance; rungs = a.rungs }) };
 }
 
 impl Problem {

@@ -1,5 +1,11 @@
 //! Lists, builders and problems on their happy paths, worked by hand.
-use crate::{Clause, ClauseBuilder, Clauses, Lit, Lits, Problem};
+ghost use Rattle.std.specs.Prelude.{List, ℕ};
+ghost use Rattle.pref_sets.specs.Kept.{IsKept};
+ghost use Rattle.pref_sets.specs.Preferred.{IsPreferredTo};
+ghost use Rattle.clauses.specs.Met.{AreMet};
+
+use crate::{Clause, ClauseBuilder, Clauses, Lit, Lits, Problem, fewer_requirements_are_met};
+use pref_sets::kept_set_is_maximal;
 use std::alloc::{AllocError, Global};
 use std::process::Abort;
 
@@ -49,6 +55,14 @@ fn clauses_are_built(rt: HostRuntime) -> Result<(), AllocError> {
     Ok(())
 }
 
+/// No requirements that can be met together are preferred to those that are kept.
+fn kept_are_preferred(problem: &Problem)
+    ensures { (items kept other : List ℕ) → IsKept (AreMet problem.now) items kept → AreMet problem.now other → ¬ IsPreferredTo items other kept }
+{
+    kept_set_is_maximal::<Problem>();
+    fewer_requirements_are_met();
+}
+
 #[test]
 fn problems_are_satisfied(rt: HostRuntime) {
     let problem = Problem {
@@ -57,7 +71,9 @@ fn problems_are_satisfied(rt: HostRuntime) {
         clauses: Clauses::new(rt.alloc()),
         roots: Lits::new(rt.alloc()),
         allowance: 10_000,
+        rungs: 0,
     };
     assert!(rt; problem.satisfies(&[true, false]));
     assert!(rt; problem.n() == 0);
+    kept_are_preferred(&problem);
 }

@@ -92,7 +92,7 @@ consequence = refl
 
 -- two requirements that exclude one another
 abbrev excluded : ClauseProblem
-excluded = record { variables = 2; features = 2; clauses = []; roots = yes 0 ∷ no 0 ∷ []; allowance = 0 }
+excluded = record { variables = 2; features = 2; clauses = []; roots = yes 0 ∷ no 0 ∷ []; allowance = 0; rungs = 0 }
 
 pub roots-clash : check (clauses_with excluded (record { n = 2; members = 1 ∷ 2 ∷ [] })) ([] ∷ []) ≡ checked.Yes
 roots-clash = refl

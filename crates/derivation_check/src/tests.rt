@@ -23,6 +23,7 @@ fn problem_of(alloc: Global, row: &Row) -> Result<Problem, AllocError>
         clauses: clauses_of(alloc, 6, row.clauses)?,
         roots,
         allowance: 3,
+        rungs: 0,
     })
 }
 

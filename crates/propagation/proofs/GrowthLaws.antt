@@ -6,10 +6,10 @@ use Rattle.std.proofs.lemmas.List.{map-append}
 use Rattle.std.proofs.lemmas.List.Elements.{Contains-append_left, Contains-append_right, Contains-append_cases}
 use Rattle.req_keys.specs.Key.{PositionSet}
 use Rattle.clauses.specs.declared.literal.Lit.{Lit}
-use Rattle.clauses.specs.Clause.{negative_of, unit_of}
+use Rattle.clauses.specs.Clause.{literal_with, unit_of}
 use Rattle.clauses.specs.Closure.{clash, AreAmong}
 use Rattle.clauses.specs.Problem.{ClauseProblem, IsBelow, clauses_with, roots_at}
-use Rattle.clauses.specs.Search.{Standing, all_false, under}
+use Rattle.clauses.specs.Search.{Standing, all_with, under}
 use Rattle.lists.proofs.Members.{from_map, to_map}
 use Rattle.clauses.proofs.LeastLaws.{closure-among}
 use Rattle.propagation.specs.Propagation.{Propagation, all_of, propagated, as_searched, value_of}
@@ -72,9 +72,9 @@ kept-value at now values clashing room is same no_clash l below kept e =
 
 -- ---- the order of a search
 
-map-decisions : (variables : List ℕ) → map unit_of (map negative_of variables) ≡ all_false variables
-map-decisions [] = refl
-map-decisions (x ∷ xs) = ap (λ r. unit_of (negative_of x) ∷ r) (map-decisions xs)
+map-decisions : (value : Bool) (variables : List ℕ) → map unit_of (map (literal_with value) variables) ≡ all_with value variables
+map-decisions value [] = refl
+map-decisions value (x ∷ xs) = ap (λ r. unit_of (literal_with value x) ∷ r) (map-decisions value xs)
 
 module _ (clauses learned roots decisions : List (List Lit)) where
   pub there : IsPart ((clauses ++ learned) ++ (roots ++ decisions)) (((clauses ++ roots) ++ learned) ++ decisions)
@@ -108,21 +108,21 @@ module _ (clauses learned roots decisions : List (List Lit)) where
       (λ (d : Contains decisions clause). Contains-append_right (clauses ++ learned) (roots ++ decisions) clause (Contains-append_right roots decisions clause d))
       (Contains-append_cases ((clauses ++ roots) ++ learned) decisions clause m)
 
-module _ (problem : ClauseProblem) (key : PositionSet) (now : Standing) where
+module _ (problem : ClauseProblem) (key : PositionSet) (value : Bool) (now : Standing) where
   abbrev roots : List (List Lit)
   roots = map unit_of (roots_at problem key)
 
-  split : propagated (as_searched problem key now) ≡ (problem.clauses ++ now.learned) ++ (roots ++ all_false now.decisions)
+  split : propagated (as_searched problem key value now) ≡ (problem.clauses ++ now.learned) ++ (roots ++ all_with value now.decisions)
   split =
       ap (λ r. (problem.clauses ++ now.learned) ++ r)
-      (map-append unit_of (roots_at problem key) (map negative_of now.decisions) ∙ ap (λ r. roots ++ r) (map-decisions now.decisions))
+      (map-append unit_of (roots_at problem key) (map (literal_with value) now.decisions) ∙ ap (λ r. roots ++ r) (map-decisions value now.decisions))
 
-  pub searched-there : AreAmong (propagated (as_searched problem key now)) (under (clauses_with problem key) now)
+  pub searched-there : AreAmong (propagated (as_searched problem key value now)) (under value (clauses_with problem key) now)
   searched-there =
-      subst (λ cs. AreAmong cs (under (clauses_with problem key) now)) (sym split)
-      (part-among ((problem.clauses ++ now.learned) ++ (roots ++ all_false now.decisions)) (under (clauses_with problem key) now) (there problem.clauses now.learned roots (all_false now.decisions)))
+      subst (λ cs. AreAmong cs (under value (clauses_with problem key) now)) (sym split)
+      (part-among ((problem.clauses ++ now.learned) ++ (roots ++ all_with value now.decisions)) (under value (clauses_with problem key) now) (there problem.clauses now.learned roots (all_with value now.decisions)))
 
-  pub searched-back : AreAmong (under (clauses_with problem key) now) (propagated (as_searched problem key now))
+  pub searched-back : AreAmong (under value (clauses_with problem key) now) (propagated (as_searched problem key value now))
   searched-back =
-      subst (λ cs. AreAmong (under (clauses_with problem key) now) cs) (sym split)
-      (part-among (under (clauses_with problem key) now) ((problem.clauses ++ now.learned) ++ (roots ++ all_false now.decisions)) (back problem.clauses now.learned roots (all_false now.decisions)))
+      subst (λ cs. AreAmong (under value (clauses_with problem key) now) cs) (sym split)
+      (part-among (under value (clauses_with problem key) now) ((problem.clauses ++ now.learned) ++ (roots ++ all_with value now.decisions)) (back problem.clauses now.learned roots (all_with value now.decisions)))

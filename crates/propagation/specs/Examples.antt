@@ -7,15 +7,19 @@ use Rattle.propagation.specs.Propagation.{Propagation, as_searched, propagated, 
 
 -- a propagation over four variables
 abbrev at : List (List Lit) → List (List Lit) → List Lit → Propagation
-at clauses learned assumed = record { problem = record { variables = 4; features = 4; clauses = clauses; roots = []; allowance = 0 }; assumed = assumed; learned = learned }
+at clauses learned assumed = record { problem = record { variables = 4; features = 4; clauses = clauses; roots = []; allowance = 0; rungs = 0 }; assumed = assumed; learned = learned }
 
 -- the problem's clauses come first, then the learned ones, then the assumed literals
 pub order : propagated (at ((yes 0 ∷ no 1 ∷ []) ∷ []) ([] ∷ []) (yes 2 ∷ no 2 ∷ [])) ≡ (yes 0 ∷ no 1 ∷ []) ∷ [] ∷ (yes 2 ∷ []) ∷ (no 2 ∷ []) ∷ []
 order = refl
 
 -- only the roots of the key's positions are assumed, before the decisions
-pub searched : propagated (as_searched (record { variables = 4; features = 4; clauses = []; roots = yes 0 ∷ no 1 ∷ []; allowance = 0 }) (record { n = 2; members = 2 ∷ [] }) (record { learned = (yes 2 ∷ []) ∷ []; decisions = 3 ∷ [] })) ≡ (yes 2 ∷ []) ∷ (no 1 ∷ []) ∷ (no 3 ∷ []) ∷ []
+pub searched : propagated (as_searched (record { variables = 4; features = 4; clauses = []; roots = yes 0 ∷ no 1 ∷ []; allowance = 0; rungs = 0 }) (record { n = 2; members = 2 ∷ [] }) false (record { learned = (yes 2 ∷ []) ∷ []; decisions = 3 ∷ [] })) ≡ (yes 2 ∷ []) ∷ (no 1 ∷ []) ∷ (no 3 ∷ []) ∷ []
 searched = refl
+
+-- or the decisions are true
+pub searched-true : (as_searched (record { variables = 4; features = 4; clauses = []; roots = []; allowance = 0; rungs = 0 }) (record { n = 0; members = [] }) true (record { learned = []; decisions = 3 ∷ [] })).assumed ≡ yes 3 ∷ []
+searched-true = refl
 
 -- ---- values
 

@@ -2,7 +2,7 @@
 use Rattle.std.specs.Prelude.{ℕ, true, false, List, ◌++◌, map, if◌then◌else◌, Bool, Option, Some, None}
 use Rattle.req_keys.specs.Key.{PositionSet}
 use Rattle.clauses.specs.declared.literal.Lit.{Lit}
-use Rattle.clauses.specs.Clause.{has, positive_of, negative_of, unit_of}
+use Rattle.clauses.specs.Clause.{has, positive_of, negative_of, literal_with, unit_of}
 use Rattle.clauses.specs.Closure.{closure}
 use Rattle.clauses.specs.Problem.{ClauseProblem, roots_at}
 use Rattle.clauses.specs.Search.{Standing}
@@ -26,6 +26,6 @@ propagated at = all_of at.problem.clauses at.learned at.assumed
 abbrev pub value_of : List (List Lit) → ℕ → Option Bool
 value_of clauses var = if has (closure clauses) (positive_of var) then Some true else (if has (closure clauses) (negative_of var) then Some false else None)
 
--- how a search stands on a propagation: the roots of the key are assumed first, and then the decisions
-abbrev pub as_searched : ClauseProblem → PositionSet → Standing → Propagation
-as_searched problem key now = record { problem = problem; assumed = roots_at problem key ++ map negative_of now.decisions; learned = now.learned }
+-- how a search stands on a propagation: the roots of the key are assumed first, and then the decisions, at the first value
+abbrev pub as_searched : ClauseProblem → PositionSet → Bool → Standing → Propagation
+as_searched problem key first now = record { problem = problem; assumed = roots_at problem key ++ map (literal_with first) now.decisions; learned = now.learned }

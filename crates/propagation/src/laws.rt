@@ -1,5 +1,5 @@
 //! What the values mean, and that the order of clauses makes no difference.
-ghost use Rattle.std.specs.Prelude.{◌≡◌, ◌↔◌, ℕ, ◌++◌, List, Contains, IsTrue, IsFalse, Some, None, true, false};
+ghost use Rattle.std.specs.Prelude.{◌≡◌, ◌↔◌, Bool, ℕ, ◌++◌, List, Contains, IsTrue, IsFalse, Some, None, true, false};
 ghost use Rattle.req_keys.specs.Key.{PositionSet};
 ghost use Rattle.clauses.specs.declared.literal.Lit.{Lit};
 ghost use Rattle.clauses.specs.Clause.{negation, negative_of, positive_of};
@@ -25,7 +25,7 @@ pub fn clauses_in_any_order()
 /// The roots of a key and then the decisions as assumed literals are what a turn of the search propagates. A clash under
 /// some assumed literals stays one under more.
 pub fn propagated_as_searched()
-    ensures clash { (problem : ClauseProblem) (key : PositionSet) (now : Standing) → clash (propagated (as_searched problem key now)) ≡ clash (under (clauses_with problem key) now) }
-    ensures values { (problem : ClauseProblem) (key : PositionSet) (now : Standing) (var : ℕ) → value_of (propagated (as_searched problem key now)) var ≡ value_of (under (clauses_with problem key) now) var }
+    ensures clash { (problem : ClauseProblem) (key : PositionSet) (first : Bool) (now : Standing) → clash (propagated (as_searched problem key first now)) ≡ clash (under first (clauses_with problem key) now) }
+    ensures values { (problem : ClauseProblem) (key : PositionSet) (first : Bool) (now : Standing) (var : ℕ) → value_of (propagated (as_searched problem key first now)) var ≡ value_of (under first (clauses_with problem key) now) var }
     ensures more { (at : Propagation) (more : List Lit) → IsTrue (clash (propagated at)) → IsTrue (clash (propagated (record at { assumed = at.assumed ++ more }))) }
 {}

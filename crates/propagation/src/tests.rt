@@ -16,6 +16,7 @@ fn problem_of(alloc: Global, words: &[&str]) -> Result<Problem, AllocError>
         clauses: clauses_of(alloc, 4, words)?,
         roots: Lits::new(alloc),
         allowance: 0,
+        rungs: 0,
     })
 }
 
@@ -230,6 +231,7 @@ fn roots_are_assumed(rt: HostRuntime) -> Result<(), AllocError> {
         clauses: Clauses::new(rt.alloc()),
         roots,
         allowance: 0,
+        rungs: 0,
     };
     let key = Key::full(rt.alloc(), problem.n())?;
     let Some(propagator) = with_roots(rt.alloc(), &problem, &key)? else {

@@ -1,58 +1,59 @@
 -- The turns of a search: what is tried stands for what is propagated, which variable is open, and what a clash leaves.
-use Rattle.std.proofs.Common.{◌≡◌, ◌∙◌, ◌⊎◌, refl, sym, ap, subst, inl, inr, ⊎_elim, ℕ, zero, suc, ◌+◌, ◌-◌, ◌<◌, ◌≤◌, Bool, true, false, cond, not, ◌&&◌, eqb, ltb, List, [], ◌∷◌, ◌++◌, length, get_or, map, take, reverse, All, Option, Some, None, arith}
+use Rattle.std.proofs.Common.{◌≡◌, ◌∙◌, ◌⊎◌, refl, sym, ap, subst, inl, inr, ⊎_elim, ℕ, zero, suc, ◌+◌, ◌-◌, ◌<◌, ◌≤◌, Bool, true, false, cond, not, ◌&&◌, eqb, ltb, List, [], ◌∷◌, ◌++◌, length, get_or, map, take, reverse, All, Option, Some, None, append_assoc, arith}
 use Rattle.std.specs.Prelude.{◌↔◌, Contains, IsTrue, filter}
 use Rattle.std.specs.List.{range_with_len, position_or_len}
 use Rattle.std.specs.Option.{is_some, option_eq}
 use Rattle.std.proofs.Math.Bool.{beq}
 use Rattle.std.proofs.lemmas.Bool.{false≢true, true≢false, cases_eq, lt-ltb, ltb-false, eqb-true}
-use Rattle.std.proofs.lemmas.List.{append-nil, map-append, get_or-reverse, length-reverse, length_push, take_all}
+use Rattle.std.proofs.lemmas.List.{append-nil, map-append, map_push, get_or-reverse, length-reverse, length_push, take_all}
 use Rattle.std.proofs.lemmas.List.Elements.{All-cons, All-push, All-contains, Contains-append_left, Contains-get_or}
 use Rattle.pref_sets.specs.Greedy.{IsGreedy}
 use Rattle.pref_sets.specs.Trimmed.{IsTrimmed, trimmed_of, without_item}
 use Rattle.pref_sets.specs.Preferred.{IsDistinct, IsWithin}
 use Rattle.pref_sets.proofs.GreedyLaws.{IsGreedy-unique, IsGreedy-greedy_of}
 use Rattle.clauses.specs.declared.literal.Lit.{Lit}
-use Rattle.clauses.specs.Clause.{has, positive_of, negative_of, unit_of}
+use Rattle.clauses.specs.Clause.{has, positive_of, negative_of, literal_with, unit_of}
 use Rattle.clauses.specs.Closure.{closure, clash, AreAmong}
 use Rattle.clauses.specs.Problem.{IsBelow}
-use Rattle.clauses.specs.Search.{Turn, all_false, some_true, needed_decisions, cut_after, turn_at_learning, up_to}
+use Rattle.clauses.specs.Search.{Turn, all_with, some_without, needed_decisions, cut_after, turn_at_learning, up_to}
 use Rattle.lists.proofs.Members.{none, first, later, first_or_later, from_filter}
 use Rattle.clauses.proofs.Cuts.{cut-distinct, cut-within}
 use Rattle.clauses.proofs.TurnLaws.{IsTurn, answers, decides, refutes, gives_up, adds_clause, turn_is}
-use Rattle.clauses.proofs.TrimmedLaws.{trimmed-within}
+use Rattle.clauses.proofs.Literals.{has-more}
+use Rattle.clauses.proofs.TrimmedLaws.{closure-more, trimmed-within}
 use Rattle.propagation.specs.Propagation.{value_of}
 use Rattle.propagation.proofs.ValueLaws.{clash-same, value-same, part-among}
 use Rattle.propagation.proofs.GrowthLaws.{there, back}
 use Rattle.solver.specs.inside.TestLaws.{more-clash}
-use Rattle.solver.specs.inside.Trials.{Trying, with_false, variables_in, Clashes}
-use Rattle.solver.specs.inside.Searching.{Searching, standing, clauses_of, all_under, turn_of, IsShown, IsSearch}
+use Rattle.solver.specs.inside.Trials.{Trying, with_tried, variables_in, Clashes}
+use Rattle.solver.specs.inside.Searching.{AreSettled, Searching, is_open, standing, clauses_of, all_under, turn_of, IsShown, IsSearch}
 use Rattle.lists.proofs.Distinct.{distinct-push}
 
 -- ---- what is tried, in the order of the definition of the search
 
-units-false : (variables : List ℕ) → map unit_of (map negative_of variables) ≡ all_false variables
-units-false [] = refl
-units-false (x ∷ xs) = ap (λ rest. unit_of (negative_of x) ∷ rest) (units-false xs)
+units-with : (value : Bool) (variables : List ℕ) → map unit_of (map (literal_with value) variables) ≡ all_with value variables
+units-with value [] = refl
+units-with value (x ∷ xs) = ap (λ rest. unit_of (literal_with value x) ∷ rest) (units-with value xs)
 
 module _ (t : Trying) (decisions : List ℕ) where
   abbrev tries : List (List Lit)
-  tries = with_false t decisions
+  tries = with_tried t decisions
 
   abbrev searches : List (List Lit)
-  searches = (clauses_of t ++ t.learned) ++ all_false decisions
+  searches = (clauses_of t ++ t.learned) ++ all_with t.first decisions
 
-  ordered : tries ≡ (t.problem.clauses ++ t.learned) ++ (map unit_of t.fixed ++ all_false decisions)
-  ordered = ap (λ units. (t.problem.clauses ++ t.learned) ++ units) (map-append unit_of t.fixed (map negative_of decisions) ∙ ap (λ units. map unit_of t.fixed ++ units) (units-false decisions))
+  ordered : tries ≡ (t.problem.clauses ++ t.learned) ++ (map unit_of t.fixed ++ all_with t.first decisions)
+  ordered = ap (λ units. (t.problem.clauses ++ t.learned) ++ units) (map-append unit_of t.fixed (map (literal_with t.first) decisions) ∙ ap (λ units. map unit_of t.fixed ++ units) (units-with t.first decisions))
 
   tries-there : AreAmong tries searches
   tries-there =
       subst (λ clauses. AreAmong clauses searches) (sym ordered)
-      (part-among ((t.problem.clauses ++ t.learned) ++ (map unit_of t.fixed ++ all_false decisions)) searches (there t.problem.clauses t.learned (map unit_of t.fixed) (all_false decisions)))
+      (part-among ((t.problem.clauses ++ t.learned) ++ (map unit_of t.fixed ++ all_with t.first decisions)) searches (there t.problem.clauses t.learned (map unit_of t.fixed) (all_with t.first decisions)))
 
   tries-back : AreAmong searches tries
   tries-back =
       subst (λ clauses. AreAmong searches clauses) (sym ordered)
-      (part-among searches ((t.problem.clauses ++ t.learned) ++ (map unit_of t.fixed ++ all_false decisions)) (back t.problem.clauses t.learned (map unit_of t.fixed) (all_false decisions)))
+      (part-among searches ((t.problem.clauses ++ t.learned) ++ (map unit_of t.fixed ++ all_with t.first decisions)) (back t.problem.clauses t.learned (map unit_of t.fixed) (all_with t.first decisions)))
 
   pub clash-searched : clash tries ≡ clash searches
   clash-searched = clash-same tries searches tries-there tries-back
@@ -64,13 +65,13 @@ module _ (t : Trying) (decisions : List ℕ) where
 
 module _ (at : Searching) where
   abbrev shown : List (List Lit)
-  shown = with_false at.trial at.trial.tried
+  shown = with_tried at.trial at.trial.tried
 
   all_tried : (untried : List ℕ) → at.decisions ≡ at.trial.tried ++ untried → untried ≡ [] → at.trial.tried ≡ at.decisions
   all_tried untried e none = sym (e ∙ ap (λ rest. at.trial.tried ++ rest) none ∙ append-nil at.trial.tried)
 
   by_untried : (untried : List ℕ) → at.decisions ≡ at.trial.tried ++ untried → (untried ≡ []) ⊎ IsTrue (clash shown) → clash shown ≡ clash (all_under at)
-  by_untried untried e (inl none) = ap (λ variables. clash (with_false at.trial variables)) (all_tried untried e none) ∙ clash-searched at.trial at.decisions
+  by_untried untried e (inl none) = ap (λ variables. clash (with_tried at.trial variables)) (all_tried untried e none) ∙ clash-searched at.trial at.decisions
   by_untried untried e (inr clashes) =
       let part : IsWithin at.trial.tried at.decisions = λ v m. subst (λ variables. Contains variables v) (sym e) (Contains-append_left at.trial.tried untried v m) in
       clashes ∙ sym (sym (clash-searched at.trial at.decisions) ∙ more-clash at.trial at.trial.tried at.decisions part clashes)
@@ -86,12 +87,9 @@ module _ (at : Searching) where
     shown-all = ⊎_elim (λ (none : is.0 ≡ []). all_tried is.0 is.1 none) (λ (clashes : IsTrue (clash shown)). absurd (false≢true (sym shown-no_clash ∙ clashes))) is.2
 
     pub shown-value : (v : ℕ) → value_of shown v ≡ value_of (all_under at) v
-    shown-value v = ap (λ variables. value_of (with_false at.trial variables) v) shown-all ∙ value-searched at.trial at.decisions v
+    shown-value v = ap (λ variables. value_of (with_tried at.trial variables) v) shown-all ∙ value-searched at.trial at.decisions v
 
 -- ---- open variables
-
-abbrev pub is_open : List (List Lit) → ℕ → Bool
-is_open clauses v = not (has (closure clauses) (positive_of v)) && not (has (closure clauses) (negative_of v))
 
 some-closed : (y n b : Bool) → cond y (Some true) (cond n (Some false) None) ≡ Some b → (not y && not n) ≡ false
 some-closed true n b e = refl
@@ -153,21 +151,21 @@ module _ (p : ℕ → Bool) where
 
 module _ (at : Searching) where
   abbrev Comes : Turn → Type 0
-  Comes r = IsTurn (clauses_of at.trial) at.trial.problem.variables at.trial.problem.allowance (standing at) r
+  Comes r = IsTurn at.trial.first (clauses_of at.trial) at.trial.problem.variables at.allowance (standing at) r
 
   comes : Comes (turn_of at)
-  comes = turn_is (clauses_of at.trial) at.trial.problem.variables at.trial.problem.allowance (standing at)
+  comes = turn_is at.trial.first (clauses_of at.trial) at.trial.problem.variables at.allowance (standing at)
 
-  learned : (r : Turn) → Comes r → clash (all_under at) ≡ true → ¬ at.decisions ≡ [] → ¬ length at.trial.learned ≡ at.trial.problem.allowance
-      → r ≡ turn_at_learning (standing at) (needed_decisions (clauses_of at.trial ++ at.trial.learned) at.decisions)
+  learned : (r : Turn) → Comes r → clash (all_under at) ≡ true → ¬ at.decisions ≡ [] → ¬ length at.trial.learned ≡ at.allowance
+      → r ≡ turn_at_learning at.trial.first (standing at) (needed_decisions at.trial.first (clauses_of at.trial ++ at.trial.learned) at.decisions)
   learned r (answers c o q) e d l = absurd (cc)
   learned r (decides x xs c o q) e d l = absurd (cc)
   learned r (refutes c o q) e d l = absurd (d o)
-  learned r (gives_up c x xs o n q) e d l = absurd (l (eqb-true (length at.trial.learned) at.trial.problem.allowance n))
+  learned r (gives_up c x xs o n q) e d l = absurd (l (eqb-true (length at.trial.learned) at.allowance n))
   learned r (adds_clause c x xs o n q) e d l = q
 
-  pub turn-learns : clash (all_under at) ≡ true → ¬ at.decisions ≡ [] → ¬ length at.trial.learned ≡ at.trial.problem.allowance
-      → turn_of at ≡ turn_at_learning (standing at) (needed_decisions (clauses_of at.trial ++ at.trial.learned) at.decisions)
+  pub turn-learns : clash (all_under at) ≡ true → ¬ at.decisions ≡ [] → ¬ length at.trial.learned ≡ at.allowance
+      → turn_of at ≡ turn_at_learning at.trial.first (standing at) (needed_decisions at.trial.first (clauses_of at.trial ++ at.trial.learned) at.decisions)
   turn-learns = learned (turn_of at) comes
 
 -- ---- what a clash needs
@@ -188,13 +186,13 @@ agreeing P Q all same (x ∷ items) set last within (inr g) =
 
 module _ (t : Trying) (decisions : List ℕ) (below : All (λ v. v < t.problem.variables) decisions) where
   abbrev test : List ℕ → Bool
-  test set = clash ((clauses_of t ++ t.learned) ++ all_false set)
+  test set = clash ((clauses_of t ++ t.learned) ++ all_with t.first set)
 
   variables-all : (set : List ℕ) → IsWithin set decisions → variables_in t.problem set ≡ set
   variables-all set within = passing (λ v. ltb v t.problem.variables) set (λ v m. lt-ltb v t.problem.variables (All-contains (λ x. x < t.problem.variables) decisions v below (within v m)))
 
-  same_clash : (set : List ℕ) → IsWithin set decisions → clash (with_false t (variables_in t.problem set)) ≡ test set
-  same_clash set within = ap (λ variables. clash (with_false t variables)) (variables-all set within) ∙ clash-searched t set
+  same_clash : (set : List ℕ) → IsWithin set decisions → clash (with_tried t (variables_in t.problem set)) ≡ test set
+  same_clash set within = ap (λ variables. clash (with_tried t variables)) (variables-all set within) ∙ clash-searched t set
 
   same_test : (set : List ℕ) → IsWithin set decisions → Clashes t set ↔ IsTrue (test set)
   same_test set within = ((λ e. sym (same_clash set within) ∙ e), (λ e. same_clash set within ∙ e))
@@ -202,7 +200,7 @@ module _ (t : Trying) (decisions : List ℕ) (below : All (λ v. v < t.problem.v
   pub clashes-there : IsTrue (test decisions) → Clashes t decisions
   clashes-there = (same_test decisions (λ v m. m)).1
 
-  pub trimmed-needed : (left : List ℕ) → IsTrimmed (Clashes t) decisions left → left ≡ needed_decisions (clauses_of t ++ t.learned) decisions
+  pub trimmed-needed : (left : List ℕ) → IsTrimmed (Clashes t) decisions left → left ≡ needed_decisions t.first (clauses_of t ++ t.learned) decisions
   trimmed-needed left trimmed =
       IsGreedy-unique (λ set. IsTrue (test set)) without_item (reverse decisions) decisions left (trimmed_of test decisions)
       (agreeing (Clashes t) (λ set. IsTrue (test set)) decisions same_test (reverse decisions) decisions left (λ v m. m) trimmed)
@@ -212,10 +210,10 @@ module _ (t : Trying) (decisions : List ℕ) (below : All (λ v. v < t.problem.v
   trimmed-part left trimmed v m = trimmed-within test decisions v (subst (λ set. Contains set v) (trimmed-needed left trimmed) m)
 
 -- the clause of decisions is about the problem's variables
-pub some_true-below : (n : ℕ) (decisions set : List ℕ) → All (λ v. v < n) decisions → IsWithin set decisions → All (IsBelow n) (some_true set)
-some_true-below n decisions [] below within = λ k d lt. absurd (omega arith)
-some_true-below n decisions (x ∷ xs) below within =
-    All-cons (IsBelow n) (positive_of x) (some_true xs) (All-contains (λ v. v < n) decisions x below (within x (first x xs))) (some_true-below n decisions xs below (λ v m. within v (later x xs v m)))
+pub some_without-below : (value : Bool) (n : ℕ) (decisions set : List ℕ) → All (λ v. v < n) decisions → IsWithin set decisions → All (IsBelow n) (some_without value set)
+some_without-below value n decisions [] below within = λ k d lt. absurd (omega arith)
+some_without-below value n decisions (x ∷ xs) below within =
+    All-cons (IsBelow n) (literal_with (not value) x) (some_without value xs) (All-contains (λ v. v < n) decisions x below (within x (first x xs))) (some_without-below value n decisions xs below (λ v m. within v (later x xs v m)))
 
 -- ---- going back
 
@@ -264,20 +262,55 @@ cut-many decisions trimmed many =
 
 -- ---- a decision more
 
-pub search-decides : (t : Trying) (decisions : List ℕ) (v : ℕ) → IsSearch t decisions → v < t.problem.variables → ¬ Contains decisions v → (tried : List ℕ) → IsSearch (record t { tried = tried }) (decisions ++ v ∷ [])
-search-decides t decisions v is below new tried = record {
+-- more clauses leave fewer variables open
+or_has : (y n : Bool) → (not y && not n) ≡ false → (y ≡ true) ⊎ (n ≡ true)
+or_has true n e = inl refl
+or_has false true e = inr refl
+or_has false false e = absurd (true≢false e)
+
+has_yes : (y n : Bool) → y ≡ true → (not y && not n) ≡ false
+has_yes true n e = refl
+has_yes false n e = absurd (false≢true e)
+
+has_no : (y n : Bool) → n ≡ true → (not y && not n) ≡ false
+has_no true n e = refl
+has_no false true e = refl
+has_no false false e = absurd (false≢true e)
+
+module _ (a b : List (List Lit)) (within : (clause : List Lit) → Contains a clause → Contains b clause) (v : ℕ) where
+  settled-more : is_open a v ≡ false → is_open b v ≡ false
+  settled-more e =
+      ⊎_elim
+      (λ (y : has (closure a) (positive_of v) ≡ true). has_yes (has (closure b) (positive_of v)) (has (closure b) (negative_of v)) (has-more (closure a) (closure b) (closure-more a b within) (positive_of v) y))
+      (λ (n : has (closure a) (negative_of v) ≡ true). has_no (has (closure b) (positive_of v)) (has (closure b) (negative_of v)) (has-more (closure a) (closure b) (closure-more a b within) (negative_of v) n))
+      (or_has (has (closure a) (positive_of v)) (has (closure a) (negative_of v)) e)
+
+-- a decision more
+with-more : (value : Bool) (clauses : List (List Lit)) (decisions : List ℕ) (v : ℕ) → (clause : List Lit) → Contains (clauses ++ all_with value decisions) clause → Contains (clauses ++ all_with value (decisions ++ v ∷ [])) clause
+with-more value clauses decisions v clause m =
+    subst (λ units. Contains (clauses ++ units) clause) (sym (map_push (λ (x : ℕ). unit_of (literal_with value x)) decisions v))
+    (subst (λ cs. Contains cs clause) (append_assoc clauses (all_with value decisions) (unit_of (literal_with value v) ∷ []))
+    (Contains-append_left (clauses ++ all_with value decisions) (unit_of (literal_with value v) ∷ []) clause m))
+
+pub search-decides : (t : Trying) (decisions : List ℕ) (allowance settled v : ℕ) → IsSearch t decisions allowance settled → v < t.problem.variables → ¬ Contains decisions v
+    → AreSettled (record { trial = t; decisions = decisions; allowance = allowance }) v → (tried : List ℕ) → IsSearch (record t { tried = tried }) (decisions ++ v ∷ []) allowance v
+search-decides t decisions allowance settled v is below new low tried = record {
   allowed = is.allowed;
   distinct = distinct-push decisions v is.distinct new;
   below = All-push (λ x. x < t.problem.variables) decisions v is.below below;
+  settled_below = λ x l.
+      settled-more ((clauses_of t ++ t.learned) ++ all_with t.first decisions) ((clauses_of t ++ t.learned) ++ all_with t.first (decisions ++ v ∷ []))
+      (with-more t.first (clauses_of t ++ t.learned) decisions v) x (low x l);
 }
 
 -- a clause learned, and the decisions cut
-pub search-learns : (t : Trying) (decisions : List ℕ) → IsSearch t decisions → length t.learned < t.problem.allowance → (clause : List Lit) (order tried : List ℕ)
-    → IsSearch (record t { learned = t.learned ++ clause ∷ []; tried = tried }) (cut_after decisions order)
-search-learns t decisions is allowed clause order tried = record {
+pub search-learns : (t : Trying) (decisions : List ℕ) (allowance settled : ℕ) → IsSearch t decisions allowance settled → length t.learned < allowance → (clause : List Lit) (order tried : List ℕ)
+    → IsSearch (record t { learned = t.learned ++ clause ∷ []; tried = tried }) (cut_after decisions order) allowance 0
+search-learns t decisions allowance settled is allowed clause order tried = record {
   allowed = (let longer : length (t.learned ++ clause ∷ []) ≡ length t.learned + 1 = length_push t.learned clause in omega arith);
   distinct = cut-distinct decisions order is.distinct;
   below = within-below t.problem.variables decisions (cut_after decisions order) is.below (cut-within decisions order);
+  settled_below = λ v l. absurd (omega arith);
 }
 
 -- an untried decision is a new one

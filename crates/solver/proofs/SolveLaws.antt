@@ -1,5 +1,5 @@
--- The loop of the search: what stands, and how many turns are left.
-use Rattle.std.proofs.Common.{◌≡◌, ◌∙◌, refl, sym, ap, subst, inl, ℕ, zero, suc, ◌+◌, ◌*◌, ◌<◌, ◌≤◌, true, false, List, [], ◌∷◌, ◌++◌, map, Some, None, arith, suc-mul}
+-- The loop of an attempt: what stands, and that it ends; and the attempts.
+use Rattle.std.proofs.Common.{◌≡◌, ◌∙◌, refl, sym, ap, subst, inl, ℕ, suc, ◌+◌, ◌<◌, ◌≤◌, Bool, true, false, List, [], ◌∷◌, ◌++◌, map, Some, None, arith}
 use Rattle.std.specs.Prelude.{◌-◌, ◌^◌}
 use Rattle.std.proofs.lemmas.List.{append-nil}
 use Rattle.req_keys.specs.Key.{PositionSet}
@@ -7,14 +7,16 @@ use Rattle.clauses.specs.declared.literal.Lit.{Lit}
 use Rattle.clauses.specs.Clause.{unit_of}
 use Rattle.clauses.specs.Closure.{closure, clash}
 use Rattle.clauses.specs.Problem.{ClauseProblem, IsProblem, clauses_with, roots_at}
-use Rattle.clauses.specs.Search.{SearchAnswer, Unsat, Turn, GoesOn, Ends, start, turn, turn_at_clash, turn_at_rest, answer_within, turn_count, search_of, under}
+use Rattle.clauses.specs.Search.{Sat, Unsat, Limit, GoesOn, Ends, IsReached, allowance_of, attempt_of, first_of, start, turn, turn_at_clash, turn_at_rest, turn_count, search_of, under}
+use Rattle.clauses.proofs.AttemptLaws.{answer-limit, attempt-most, first-answer, search-from, search-of}
 use Rattle.clauses.proofs.BoundLaws.{reached-few, never-limit}
-use Rattle.clauses.proofs.CauseLaws.{reached-members, reached-below, reached-allowed}
+use Rattle.clauses.proofs.CauseLaws.{ends-answer, reached-members, reached-below, reached-allowed}
 use Rattle.clauses.proofs.DerivationLaws.{unsat-derivation, unsat-lines, derivation-unsatisfiable}
-use Rattle.clauses.proofs.EnoughLaws.{answers-in_count}
-use Rattle.clauses.proofs.StandingLaws.{reached-good}
+use Rattle.clauses.proofs.EnoughLaws.{fewer-left, turns_left}
 use Rattle.clauses.proofs.KeyRoots.{clauses_with-below}
 use Rattle.clauses.proofs.SatLaws.{sat-satisfies}
+use Rattle.clauses.proofs.StandingLaws.{reached-good}
+use Rattle.clauses.proofs.TurnLaws.{after_one_more}
 use Rattle.solver.specs.declared.answer.Answer.{Answer}
 use Rattle.solver.specs.declared.answer.Answer.TheVariants as answer
 use Rattle.solver.specs.Answers.{meaning, EndsWithLearned, IsRight}
@@ -22,98 +24,95 @@ use Rattle.solver.specs.declared.search.Ending.{Ending}
 use Rattle.solver.specs.inside.Searching.{Searching, standing, turn_of, IsShown, IsTurn, ended, Begins}
 use Rattle.solver.specs.Stopping.{Rises}
 
--- with so many turns left, the search from here on has the answer of the whole
-pub record IsGoing (problem : ClauseProblem) (key : PositionSet) (at : Searching) (left : ℕ) : Type 0 where
+-- what stands in an attempt: the search comes to it
+pub record IsGoing (problem : ClauseProblem) (key : PositionSet) (number : ℕ) (at : Searching) : Type 0 where
   pub problem_is : at.trial.problem ≡ problem
   pub fixed_is : at.trial.fixed ≡ roots_at problem key
+  pub first_is : at.trial.first ≡ first_of number
+  pub allowance_is : at.allowance ≡ allowance_of problem number
   pub shown : IsShown at
-  pub answer : search_of problem key ≡ answer_within left (clauses_with problem key) problem.variables problem.allowance (standing at)
+  pub reached : IsReached problem key number (standing at)
 
-module _ (problem : ClauseProblem) (key : PositionSet) where
-  pub going-start : (at : Searching) → Begins problem key (Some at) → IsGoing problem key at (turn_count problem.variables problem.allowance)
+-- how many turns are left at most
+abbrev pub left : Searching → ℕ
+left at = turns_left true [] at.trial.problem.variables at.allowance (standing at)
+
+module _ (problem : ClauseProblem) (key : PositionSet) (number : ℕ) where
+  abbrev clauses : List (List Lit)
+  clauses = clauses_with problem key
+
+  abbrev allowance : ℕ
+  allowance = allowance_of problem number
+
+  pub going-start : (at : Searching) → Begins problem key (first_of number) allowance (Some at) → IsGoing problem key number at
   going-start at e = record {
     problem_is = ap (λ (s : Searching). s.trial.problem) e;
     fixed_is = ap (λ (s : Searching). s.trial.fixed) e;
+    first_is = ap (λ (s : Searching). s.trial.first) e;
+    allowance_is = ap (λ (s : Searching). s.allowance) e;
     shown = subst IsShown (sym e) ([], refl, inl refl);
-    answer = ap (λ (s : Searching). answer_within (turn_count problem.variables problem.allowance) (clauses_with problem key) problem.variables problem.allowance (standing s)) (sym e);
+    reached = (0, ap (λ (s : Searching). Some (standing s)) (sym e));
   }
 
-  module _ (at : Searching) (left : ℕ) (is : IsGoing problem key at (suc left)) where
-    due : turn_of at ≡ turn (clauses_with problem key) problem.variables problem.allowance (standing at)
+  module _ (at : Searching) (is : IsGoing problem key number at) where
+    due : turn_of at ≡ turn (first_of number) clauses problem.variables allowance (standing at)
     due =
-        ap (λ (p : ClauseProblem). turn (p.clauses ++ map unit_of at.trial.fixed) p.variables p.allowance (standing at)) is.problem_is
-        ∙ ap (λ (fixed : List Lit). turn (problem.clauses ++ map unit_of fixed) problem.variables problem.allowance (standing at)) is.fixed_is
+        ap (λ (p : ClauseProblem). turn at.trial.first (p.clauses ++ map unit_of at.trial.fixed) p.variables at.allowance (standing at)) is.problem_is
+        ∙ ap (λ (fixed : List Lit). turn at.trial.first (problem.clauses ++ map unit_of fixed) problem.variables at.allowance (standing at)) is.fixed_is
+        ∙ ap (λ (first : Bool). turn first clauses problem.variables at.allowance (standing at)) is.first_is
+        ∙ ap (λ (a : ℕ). turn (first_of number) clauses problem.variables a (standing at)) is.allowance_is
 
-    after : (t : Turn) → turn (clauses_with problem key) problem.variables problem.allowance (standing at) ≡ t
-        → search_of problem key ≡ elim t [ GoesOn next ↦ answer_within left (clauses_with problem key) problem.variables problem.allowance next | Ends answer ↦ Some answer ]
-    after t e = is.answer ∙ ap (λ (x : Turn). elim x [ GoesOn next ↦ answer_within left (clauses_with problem key) problem.variables problem.allowance next | Ends answer ↦ Some answer ]) e
+    module _ (now : Searching) (t : IsTurn at now None) where
+      goes : turn (first_of number) clauses problem.variables allowance (standing at) ≡ GoesOn (standing now)
+      goes = sym due ∙ t.0
 
-    pub going-on : (now : Searching) → IsTurn at now None → IsGoing problem key now left
-    going-on now t = record {
-      problem_is = t.1 ∙ is.problem_is;
-      fixed_is = t.2 ∙ is.fixed_is;
-      shown = t.3;
-      answer = after (GoesOn (standing now)) (sym due ∙ t.0);
-    }
+      pub going-on : IsGoing problem key number now
+      going-on = record {
+        problem_is = t.1 ∙ is.problem_is;
+        fixed_is = t.2 ∙ is.fixed_is;
+        first_is = t.3 ∙ is.first_is;
+        allowance_is = t.4 ∙ is.allowance_is;
+        shown = t.5;
+        reached = (suc is.reached.0, after_one_more (first_of number) clauses problem.variables allowance (standing at) (standing now) goes is.reached.0 start is.reached.1);
+      }
 
-    pub going-ends : (now : Searching) (end : Ending) → IsTurn at now (Some end) → search_of problem key ≡ Some (ended now end)
-    going-ends now end t = after (Ends (ended at end)) (sym due ∙ t.0) ∙ ap (λ (s : Searching). Some (ended s end)) (sym t.1)
+      left_of : (s : Searching) → s.trial.problem ≡ problem → s.allowance ≡ allowance → turns_left true [] problem.variables allowance (standing s) ≡ left s
+      left_of s p a =
+          ap (λ (q : ClauseProblem). turns_left true [] q.variables allowance (standing s)) (sym p)
+          ∙ ap (λ (n : ℕ). turns_left true [] s.trial.problem.variables n (standing s)) (sym a)
+
+      pub going-fewer : left now < left at
+      going-fewer =
+          let few = reached-allowed (first_of number) clauses problem.variables allowance is.reached.0 (standing at) is.reached.1 in
+          subst (λ (n : ℕ). n < left at) (left_of now (t.1 ∙ is.problem_is) (t.4 ∙ is.allowance_is))
+          (subst (λ (n : ℕ). turns_left true [] problem.variables allowance (standing now) < n) (left_of at is.problem_is is.allowance_is)
+          (fewer-left (first_of number) clauses problem.variables allowance (standing at) (standing now) few goes))
+
+    pub going-ends : (now : Searching) (end : Ending) → IsTurn at now (Some end) → attempt_of problem key number ≡ Some (ended now end)
+    going-ends now end t =
+        ends-answer (first_of number) clauses problem.variables allowance is.reached.0 (standing at) (ended at end) is.reached.1 (sym due ∙ t.0)
+        ∙ ap (λ (s : Searching). Some (ended s end)) (sym t.1)
 
     pub shown-at_end : (now : Searching) (end : Ending) → IsTurn at now (Some end) → IsShown now
     shown-at_end now end t = subst IsShown (sym t.1) is.shown
 
-  some≢none : (answer : SearchAnswer) → Some answer ≡ None → ⊥
-  some≢none answer e = cc
-
-  -- the turns are enough
-  pub never-over : (at : Searching) → IsGoing problem key at zero → ⊥
-  never-over at is =
-      let answers = answers-in_count (clauses_with problem key) problem.variables problem.allowance in
-      some≢none answers.0 (sym answers.1 ∙ is.answer)
-
-  one_turn : (count : ℕ) (left : ℕ) → count ≡ suc left → clash (clauses_with problem key) ≡ true
-      → answer_within count (clauses_with problem key) problem.variables problem.allowance start ≡ Some (Unsat ([] ∷ []))
-  one_turn count left e c =
-      ap (λ n. answer_within n (clauses_with problem key) problem.variables problem.allowance start) e
-      ∙ ap (λ (t : Turn). elim t [ GoesOn next ↦ answer_within left (clauses_with problem key) problem.variables problem.allowance next | Ends answer ↦ Some answer ]) first_turn
+  -- the roots of the key clash with the clauses
+  pub refuted-at_start : clash clauses ≡ true → attempt_of problem key number ≡ Some (Unsat ([] ∷ []))
+  refuted-at_start c = ends-answer (first_of number) clauses problem.variables allowance 0 start (Unsat ([] ∷ [])) refl first_turn
     where
-      all : under (clauses_with problem key) start ≡ clauses_with problem key
-      all = append-nil (clauses_with problem key ++ []) ∙ append-nil (clauses_with problem key)
+      all : under (first_of number) clauses start ≡ clauses
+      all = append-nil (clauses ++ []) ∙ append-nil clauses
 
-      first_turn : turn (clauses_with problem key) problem.variables problem.allowance start ≡ Ends (Unsat ([] ∷ []))
+      first_turn : turn (first_of number) clauses problem.variables allowance start ≡ Ends (Unsat ([] ∷ []))
       first_turn =
           ap (λ b. elim b [
-            | true ↦ turn_at_clash (clauses_with problem key) problem.allowance start
-            | false ↦ turn_at_rest problem.variables (closure (under (clauses_with problem key) start)) start
+            | true ↦ turn_at_clash (first_of number) clauses allowance start
+            | false ↦ turn_at_rest problem.variables (closure (under (first_of number) clauses start)) start
           ]) (ap clash all ∙ c)
-
-  -- the roots of the key clash with the clauses
-  pub refuted-at_start : Begins problem key None → search_of problem key ≡ Some (Unsat ([] ∷ []))
-  refuted-at_start c =
-      one_turn (turn_count problem.variables problem.allowance) (problem.allowance * (problem.variables + 1) + problem.variables)
-      (count problem.allowance problem.variables) c
-    where
-      count : (a v : ℕ) → (a + 1) * (v + 1) ≡ suc (a * (v + 1) + v)
-      count a v =
-          let one : a + 1 ≡ suc a = omega arith in
-          let product : suc a * (v + 1) ≡ a * (v + 1) + (v + 1) = suc-mul a (v + 1) in
-          ap (λ z. z * (v + 1)) one ∙ product ∙ omega arith
 
 -- a count that rises later has risen
 pub rises-later : (a b c : ℕ) → a ≤ b → Rises b c → Rises a c
 rises-later a b c le rises = omega arith
-
--- before the last turn there is one left
-module _ (problem : ClauseProblem) (key : PositionSet) (at : Searching) (counter left end : ℕ) (count : counter + left ≡ end) (is : IsGoing problem key at left) where
-  pub one-left : counter < end → (rest : ℕ) × ((counter + 1) + rest ≡ end) × IsGoing problem key at (suc rest)
-  one-left inside =
-      let more : left ≡ suc (left - 1) = omega arith in
-      (left - 1, omega arith, subst (IsGoing problem key at) more is)
-
-  pub none-left : end ≤ counter → ⊥
-  none-left over =
-      let done : left ≡ 0 = omega arith in
-      never-over problem key at (subst (IsGoing problem key at) done is)
 
 -- ---- what the answer says
 
@@ -123,25 +122,49 @@ limit_case a m f = omega arith
 -- what was learned when the search ends in Unsat
 lines-learned : (problem : ClauseProblem) (key : PositionSet) (lines : List (List Lit)) → search_of problem key ≡ Some (Unsat lines) → EndsWithLearned problem lines
 lines-learned problem key lines e =
+    let of = search-of problem key (Unsat lines) e in
     let clauses = clauses_with problem key in
-    let at = unsat-lines clauses problem.variables problem.allowance (turn_count problem.variables problem.allowance) lines e in (
+    let sign = first_of of.attempt in
+    let allowance = allowance_of problem of.attempt in
+    let at = unsat-lines sign clauses problem.variables allowance (turn_count problem.variables allowance) lines of.is in (
       at.0.learned,
       at.3,
       record {
-        members = reached-members clauses problem.variables problem.allowance at.1.0 at.0 at.1.1;
-        below = reached-below clauses problem.variables problem.allowance at.1.0 at.0 at.1.1;
-        others = (reached-good clauses problem.variables problem.allowance at.1.0 at.0 at.1.1).others;
-        within = reached-allowed clauses problem.variables problem.allowance at.1.0 at.0 at.1.1;
-        most = (let few = reached-few clauses problem.variables problem.allowance at.1.0 at.0 at.1.1 in omega arith);
+        members = reached-members sign clauses problem.variables allowance at.1.0 at.0 at.1.1;
+        below = reached-below sign clauses problem.variables allowance at.1.0 at.0 at.1.1;
+        others = (reached-good sign clauses problem.variables allowance at.1.0 at.0 at.1.1).others;
+        within = (of.attempt, attempt-most problem key (Unsat lines) of, reached-allowed sign clauses problem.variables allowance at.1.0 at.0 at.1.1);
+        most = (let few = reached-few sign clauses problem.variables allowance at.1.0 at.0 at.1.1 in omega arith);
       },
     )
 
 -- the answer of the search is right
 pub right-answer : (problem : ClauseProblem) (key : PositionSet) → IsProblem problem → (given : Answer) → search_of problem key ≡ Some (meaning given) → IsRight problem key given
 right-answer problem key lawful (answer.Sat values) e =
-    sat-satisfies (clauses_with problem key) problem.variables problem.allowance (clauses_with-below problem key lawful) (turn_count problem.variables problem.allowance) values e
+    let of = search-of problem key (Sat values) e in
+    let allowance = allowance_of problem of.attempt in
+    sat-satisfies (first_of of.attempt) (clauses_with problem key) problem.variables allowance (clauses_with-below problem key lawful) (turn_count problem.variables allowance) values of.is
 right-answer problem key lawful (answer.Unsat lines) e =
-    let derived = unsat-derivation (clauses_with problem key) problem.variables problem.allowance (turn_count problem.variables problem.allowance) lines e in
+    let of = search-of problem key (Unsat lines) e in
+    let allowance = allowance_of problem of.attempt in
+    let derived = unsat-derivation (first_of of.attempt) (clauses_with problem key) problem.variables allowance (turn_count problem.variables allowance) lines of.is in
     (derived, (λ values. derivation-unsatisfiable values (clauses_with problem key) lines derived), lines-learned problem key lines e)
-right-answer problem key lawful answer.Limit e =
-    limit_case problem.allowance (2 ^ problem.variables - 1) (λ enough. never-limit (clauses_with problem key) problem.variables problem.allowance (turn_count problem.variables problem.allowance) (omega arith) e)
+right-answer problem key lawful answer.Limit e = λ attempt inside.
+    let allowance = allowance_of problem attempt in
+    limit_case allowance (2 ^ problem.variables - 1) (λ enough.
+    never-limit (first_of attempt) (clauses_with problem key) problem.variables allowance (turn_count problem.variables allowance) (omega arith)
+    (answer-limit problem key problem.rungs 0 e attempt (omega arith) (omega arith)))
+
+-- ---- the attempts
+
+-- an answer that isn't Limit is that of the search, where the attempts before were Limit
+pub answer-found : (problem : ClauseProblem) (key : PositionSet) (number : ℕ) (given : Answer) → number < problem.rungs → ((earlier : ℕ) → earlier < number → attempt_of problem key earlier ≡ Some Limit)
+    → attempt_of problem key number ≡ Some (meaning given) → (¬ meaning given ≡ Limit) → search_of problem key ≡ Some (meaning given)
+answer-found problem key number given inside before e other =
+    let count : number + (problem.rungs - number) ≡ problem.rungs = omega arith in
+    search-from problem key number (problem.rungs - number) count before ∙ first-answer problem key (problem.rungs - number) number (meaning given) e other
+
+-- and that of the last attempt is
+pub answer-last : (problem : ClauseProblem) (key : PositionSet) (given : Answer) → ((earlier : ℕ) → earlier < problem.rungs → attempt_of problem key earlier ≡ Some Limit)
+    → attempt_of problem key problem.rungs ≡ Some (meaning given) → search_of problem key ≡ Some (meaning given)
+answer-last problem key given before e = let count : problem.rungs + 0 ≡ problem.rungs = omega arith in search-from problem key problem.rungs 0 count before ∙ e

@@ -9,7 +9,7 @@ use Rattle.lists.proofs.Distinct.{distinct-push}
 use Rattle.lists.proofs.Members.{none, first, first_or_later, from_map, to_map, from_filter, to_filter}
 use Rattle.pref_sets.specs.Preferred.{IsWithin}
 use Rattle.clauses.specs.declared.literal.Lit.{Lit}
-use Rattle.clauses.specs.Clause.{negation, negative_of, unit_of}
+use Rattle.clauses.specs.Clause.{negation, literal_with, unit_of}
 use Rattle.clauses.specs.Closure.{closure, clash, IsClosed}
 use Rattle.clauses.specs.Problem.{ClauseProblem}
 use Rattle.clauses.proofs.TrimmedLaws.{clash-from_refuted, refuted-from_clash}
@@ -19,42 +19,38 @@ use Rattle.propagation.specs.Room.{HasRoom, IsMadeTrue}
 use Rattle.propagation.proofs.RoomLaws.{new-variable, room-for}
 use Rattle.propagation.proofs.ValueLaws.{one_sign}
 use Rattle.solver.specs.inside.TestLaws.{more-closed, more-clash, same-transitive}
-use Rattle.solver.specs.inside.Trials.{Trying, with_false, variables_in, Clashes, SameButTried, IsTrial, tried_of}
+use Rattle.solver.specs.inside.Trials.{Trying, with_tried, variables_in, Clashes, SameButTried, IsTrial, tried_of}
 
 module _ (at : Trying) where
   -- where all of a set is false already, and a part of it is tried and doesn't clash, the set doesn't
-  module _ (tried set : List ℕ) (within : IsWithin tried set) (all_false : (v : ℕ) → Contains set v → Contains (closure (with_false at tried)) (negative_of v)) where
-    closed_too : IsClosed (with_false at set) (Contains (closure (with_false at tried)))
+  module _ (tried set : List ℕ) (within : IsWithin tried set) (all_false : (v : ℕ) → Contains set v → Contains (closure (with_tried at tried)) (literal_with at.first v)) where
+    closed_too : IsClosed (with_tried at set) (Contains (closure (with_tried at tried)))
     closed_too clause l m inside others =
         ⊎_elim
         (λ (old : Contains (at.problem.clauses ++ at.learned) clause).
-        closure-closed (with_false at tried) clause l (Contains-append_left (at.problem.clauses ++ at.learned) (map unit_of (at.fixed ++ map negative_of tried)) clause old) inside others)
-        (λ (unit : Contains (map unit_of (at.fixed ++ map negative_of set)) clause).
-        let of = from_map unit_of (at.fixed ++ map negative_of set) clause unit in
+        closure-closed (with_tried at tried) clause l (Contains-append_left (at.problem.clauses ++ at.learned) (map unit_of (at.fixed ++ map (literal_with at.first) tried)) clause old) inside others)
+        (λ (unit : Contains (map unit_of (at.fixed ++ map (literal_with at.first) set)) clause).
+        let of = from_map unit_of (at.fixed ++ map (literal_with at.first) set) clause unit in
         let same : of.0 ≡ l =
         ⊎_elim (λ (e : of.0 ≡ l). e) (λ (no : Contains [] l). absurd (none l no)) (first_or_later of.0 [] l (subst (λ c. Contains c l) (sym of.2) inside)) in
-        subst (Contains (closure (with_false at tried))) same
+        subst (Contains (closure (with_tried at tried))) same
         (⊎_elim
         (λ (stays : Contains at.fixed of.0).
-        unit-closed (with_false at tried) of.0
-        (Contains-append_right (at.problem.clauses ++ at.learned) (map unit_of (at.fixed ++ map negative_of tried)) (unit_of of.0)
-        (to_map unit_of (at.fixed ++ map negative_of tried) of.0 (Contains-append_left at.fixed (map negative_of tried) of.0 stays))))
-        (λ (new : Contains (map negative_of set) of.0).
-        let var = from_map negative_of set of.0 new in
-        subst (Contains (closure (with_false at tried))) var.2 (all_false var.0 var.1))
-        (Contains-append_cases at.fixed (map negative_of set) of.0 of.1)))
-        (Contains-append_cases (at.problem.clauses ++ at.learned) (map unit_of (at.fixed ++ map negative_of set)) clause m)
+        unit-closed (with_tried at tried) of.0
+        (Contains-append_right (at.problem.clauses ++ at.learned) (map unit_of (at.fixed ++ map (literal_with at.first) tried)) (unit_of of.0)
+        (to_map unit_of (at.fixed ++ map (literal_with at.first) tried) of.0 (Contains-append_left at.fixed (map (literal_with at.first) tried) of.0 stays))))
+        (λ (new : Contains (map (literal_with at.first) set) of.0).
+        let var = from_map (literal_with at.first) set of.0 new in
+        subst (Contains (closure (with_tried at tried))) var.2 (all_false var.0 var.1))
+        (Contains-append_cases at.fixed (map (literal_with at.first) set) of.0 of.1)))
+        (Contains-append_cases (at.problem.clauses ++ at.learned) (map unit_of (at.fixed ++ map (literal_with at.first) set)) clause m)
 
-    pub same-closed : (l : Lit) → Contains (closure (with_false at set)) l → Contains (closure (with_false at tried)) l
-    same-closed = closure-least (with_false at set) (Contains (closure (with_false at tried))) closed_too
+    pub same-closed : (l : Lit) → Contains (closure (with_tried at set)) l → Contains (closure (with_tried at tried)) l
+    same-closed = closure-least (with_tried at set) (Contains (closure (with_tried at tried))) closed_too
 
 -- ---- a variable more
 
-tried-negative : (variables : List ℕ) → map (λ (l : Lit). l.var) (map negative_of variables) ≡ variables
-tried-negative [] = refl
-tried-negative (x ∷ xs) = ap (λ rest. x ∷ rest) (tried-negative xs)
-
-module _ (problem : ClauseProblem) (at : Propagation) (fixed : ℕ) (is : IsTrial problem at fixed) where
+module _ (problem : ClauseProblem) (first : Bool) (at : Propagation) (fixed : ℕ) (is : IsTrial problem first at fixed) where
   abbrev tried : List ℕ
   tried = tried_of at fixed
 
@@ -68,73 +64,73 @@ module _ (problem : ClauseProblem) (at : Propagation) (fixed : ℕ) (is : IsTria
 
   module _ (v : ℕ) (below : v < problem.variables) (new : ¬ Contains tried v) where
     abbrev next : Propagation
-    next = record at { assumed = at.assumed ++ negative_of v ∷ [] }
+    next = record at { assumed = at.assumed ++ literal_with first v ∷ [] }
 
-    drops-push : drop fixed (at.assumed ++ negative_of v ∷ []) ≡ drop fixed at.assumed ++ negative_of v ∷ []
-    drops-push = drop-append-le fixed at.assumed (negative_of v ∷ []) is.within
+    drops-push : drop fixed (at.assumed ++ literal_with first v ∷ []) ≡ drop fixed at.assumed ++ literal_with first v ∷ []
+    drops-push = drop-append-le fixed at.assumed (literal_with first v ∷ []) is.within
 
     pub tried-push : tried_of next fixed ≡ tried ++ v ∷ []
-    tried-push = ap (map (λ (l : Lit). l.var)) drops-push ∙ map_push (λ (l : Lit). l.var) (drop fixed at.assumed) (negative_of v)
+    tried-push = ap (map (λ (l : Lit). l.var)) drops-push ∙ map_push (λ (l : Lit). l.var) (drop fixed at.assumed) (literal_with first v)
 
-    pub trial-push : IsTrial problem next fixed
+    pub trial-push : IsTrial problem first next fixed
     trial-push = record {
       same_problem = is.same_problem;
       lawful = is.lawful;
-      within = (let longer = length_push at.assumed (negative_of v) in let w = is.within in omega arith);
+      within = (let longer = length_push at.assumed (literal_with first v) in let w = is.within in omega arith);
       few = is.few;
-      negative = drops-push ∙ ap (λ xs. xs ++ negative_of v ∷ []) is.negative ∙ sym (map_push negative_of tried v) ∙ ap (map negative_of) (sym tried-push);
+      valued = drops-push ∙ ap (λ xs. xs ++ literal_with first v ∷ []) is.valued ∙ sym (map_push (literal_with first) tried v) ∙ ap (map (literal_with first)) (sym tried-push);
       distinct = subst IsDistinct (sym tried-push) (distinct-push tried v is.distinct new);
       below = subst (All (λ x. x < problem.variables)) (sym tried-push) (All-push (λ x. x < problem.variables) tried v is.below below);
     }
 
--- ---- a variable that is made false
+-- ---- a variable that is made to have the first value
 
 -- what a `Trial` shows
-abbrev pub shown_by : ClauseProblem → Propagation → ℕ → Trying
-shown_by problem at fixed = record { problem = problem; learned = at.learned; fixed = take fixed at.assumed; tried = tried_of at fixed }
+abbrev pub shown_by : ClauseProblem → Bool → Propagation → ℕ → Trying
+shown_by problem first at fixed = record { problem = problem; learned = at.learned; fixed = take fixed at.assumed; tried = tried_of at fixed; first = first }
 
 -- its clauses are those that are propagated
-pub shown-propagated : (problem : ClauseProblem) (at : Propagation) (fixed : ℕ) → IsTrial problem at fixed → propagated at ≡ with_false (shown_by problem at fixed) (tried_of at fixed)
-shown-propagated problem at fixed is =
+pub shown-propagated : (problem : ClauseProblem) (first : Bool) (at : Propagation) (fixed : ℕ) → IsTrial problem first at fixed → propagated at ≡ with_tried (shown_by problem first at fixed) (tried_of at fixed)
+shown-propagated problem first at fixed is =
     ap (λ (p : ClauseProblem). all_of p.clauses at.learned at.assumed) is.same_problem
-    ∙ ap (all_of problem.clauses at.learned) (sym (take-append-drop fixed at.assumed) ∙ ap (λ rest. take fixed at.assumed ++ rest) is.negative)
+    ∙ ap (all_of problem.clauses at.learned) (sym (take-append-drop fixed at.assumed) ∙ ap (λ rest. take fixed at.assumed ++ rest) is.valued)
 
 -- one variable more
-pub with_false-push : (at : Trying) (set : List ℕ) (v : ℕ) → with_false at (set ++ v ∷ []) ≡ with_false at set ++ unit_of (negative_of v) ∷ []
-with_false-push at set v =
-    ap (λ ls. all_of at.problem.clauses at.learned (at.fixed ++ ls)) (map_push negative_of set v)
-    ∙ ap (all_of at.problem.clauses at.learned) (sym (append_assoc at.fixed (map negative_of set) (negative_of v ∷ [])))
-    ∙ ap (λ units. (at.problem.clauses ++ at.learned) ++ units) (map_push unit_of (at.fixed ++ map negative_of set) (negative_of v))
-    ∙ sym (append_assoc (at.problem.clauses ++ at.learned) (map unit_of (at.fixed ++ map negative_of set)) (unit_of (negative_of v) ∷ []))
+pub with_tried-push : (at : Trying) (set : List ℕ) (v : ℕ) → with_tried at (set ++ v ∷ []) ≡ with_tried at set ++ unit_of (literal_with at.first v) ∷ []
+with_tried-push at set v =
+    ap (λ ls. all_of at.problem.clauses at.learned (at.fixed ++ ls)) (map_push (literal_with at.first) set v)
+    ∙ ap (all_of at.problem.clauses at.learned) (sym (append_assoc at.fixed (map (literal_with at.first) set) (literal_with at.first v ∷ [])))
+    ∙ ap (λ units. (at.problem.clauses ++ at.learned) ++ units) (map_push unit_of (at.fixed ++ map (literal_with at.first) set) (literal_with at.first v))
+    ∙ sym (append_assoc (at.problem.clauses ++ at.learned) (map unit_of (at.fixed ++ map (literal_with at.first) set)) (unit_of (literal_with at.first v) ∷ []))
 
-module _ (problem : ClauseProblem) (fixed : ℕ) (old new : Propagation) (is : IsTrial problem old fixed) (v : ℕ) (below : v < problem.variables) (made : IsMadeTrue old (negative_of v) new) where
+module _ (problem : ClauseProblem) (first : Bool) (fixed : ℕ) (old new : Propagation) (is : IsTrial problem first old fixed) (v : ℕ) (below : v < problem.variables) (made : IsMadeTrue old (literal_with first v) new) where
   abbrev Pushed : Type 0
-  Pushed = (value_of (propagated old) v ≡ None) × (new ≡ record old { assumed = old.assumed ++ negative_of v ∷ [] })
+  Pushed = (value_of (propagated old) v ≡ None) × (new ≡ record old { assumed = old.assumed ++ literal_with first v ∷ [] })
 
-  by_made : (P : Propagation → Type 0) → P old → (¬ Contains (tried_of old fixed) v → P (record old { assumed = old.assumed ++ negative_of v ∷ [] })) → P new
+  by_made : (P : Propagation → Type 0) → P old → (¬ Contains (tried_of old fixed) v → P (record old { assumed = old.assumed ++ literal_with first v ∷ [] })) → P new
   by_made P stays pushed =
       ⊎_elim
       (λ (e : new ≡ old). subst P (sym e) stays)
       (λ (o : Pushed). subst P (sym o.1) (pushed (new-variable old fixed v o.0)))
       made
 
-  pub made-trial : IsTrial problem new fixed
-  made-trial = by_made (λ at. IsTrial problem at fixed) is (λ fresh. trial-push problem old fixed is v below fresh)
+  pub made-trial : IsTrial problem first new fixed
+  made-trial = by_made (λ at. IsTrial problem first at fixed) is (λ fresh. trial-push problem first old fixed is v below fresh)
 
-  pub made-same : SameButTried (shown_by problem old fixed) (shown_by problem new fixed)
+  pub made-same : SameButTried (shown_by problem first old fixed) (shown_by problem first new fixed)
   made-same =
-      by_made (λ at. SameButTried (shown_by problem old fixed) (shown_by problem at fixed)) (refl, refl, refl)
-      (λ fresh. (refl, refl, take-append-le fixed old.assumed (negative_of v ∷ []) is.within))
+      by_made (λ at. SameButTried (shown_by problem first old fixed) (shown_by problem first at fixed)) (refl, refl, refl, refl)
+      (λ fresh. (refl, refl, take-append-le fixed old.assumed (literal_with first v ∷ []) is.within, refl))
 
   pub made-within : IsWithin (tried_of new fixed) (tried_of old fixed ++ v ∷ [])
   made-within =
       by_made (λ at. IsWithin (tried_of at fixed) (tried_of old fixed ++ v ∷ [])) (λ x m. Contains-append_left (tried_of old fixed) (v ∷ []) x m)
-      (λ fresh x m. subst (λ xs. Contains xs x) (tried-push problem old fixed is v below fresh) m)
+      (λ fresh x m. subst (λ xs. Contains xs x) (tried-push problem first old fixed is v below fresh) m)
 
   pub made-more : IsWithin (tried_of old fixed) (tried_of new fixed)
   made-more =
       by_made (λ at. IsWithin (tried_of old fixed) (tried_of at fixed)) (λ x m. m)
-      (λ fresh x m. subst (λ xs. Contains xs x) (sym (tried-push problem old fixed is v below fresh)) (Contains-append_left (tried_of old fixed) (v ∷ []) x m))
+      (λ fresh x m. subst (λ xs. Contains xs x) (sym (tried-push problem first old fixed is v below fresh)) (Contains-append_left (tried_of old fixed) (v ∷ []) x m))
 
 -- ---- which numbers are variables
 
@@ -154,34 +150,35 @@ module _ (problem : ClauseProblem) where
 -- ---- the set that is tested, number by number
 
 -- what two states have in common says that their clauses are the same
-pub with_false-same : (a b : Trying) → SameButTried a b → (set : List ℕ) → with_false b set ≡ with_false a set
-with_false-same a b same set =
-    ap (λ (p : ClauseProblem). all_of p.clauses b.learned (b.fixed ++ map negative_of set)) same.0
-    ∙ ap (λ learned. all_of a.problem.clauses learned (b.fixed ++ map negative_of set)) same.1
-    ∙ ap (λ fixed. all_of a.problem.clauses a.learned (fixed ++ map negative_of set)) same.2
+pub with_tried-same : (a b : Trying) → SameButTried a b → (set : List ℕ) → with_tried b set ≡ with_tried a set
+with_tried-same a b same set =
+    ap (λ (p : ClauseProblem). all_of p.clauses b.learned (b.fixed ++ map (literal_with b.first) set)) same.0
+    ∙ ap (λ learned. all_of a.problem.clauses learned (b.fixed ++ map (literal_with b.first) set)) same.1
+    ∙ ap (λ fixed. all_of a.problem.clauses a.learned (fixed ++ map (literal_with b.first) set)) same.2
+    ∙ ap (λ (first : Bool). all_of a.problem.clauses a.learned (a.fixed ++ map (literal_with first) set)) same.3
 
 pub clashes-same : (a b : Trying) → SameButTried a b → (set : List ℕ) → (Clashes b set → Clashes a set) × (Clashes a set → Clashes b set)
 clashes-same a b same set =
-    let equal : clash (with_false b (variables_in b.problem set)) ≡ clash (with_false a (variables_in a.problem set)) =
-    ap (λ (p : ClauseProblem). clash (with_false b (variables_in p set))) same.0 ∙ ap clash (with_false-same a b same (variables_in a.problem set)) in
+    let equal : clash (with_tried b (variables_in b.problem set)) ≡ clash (with_tried a (variables_in a.problem set)) =
+    ap (λ (p : ClauseProblem). clash (with_tried b (variables_in p set))) same.0 ∙ ap clash (with_tried-same a b same (variables_in a.problem set)) in
     ((λ c. sym equal ∙ c), (λ c. equal ∙ c))
 
--- the variables of the set are false, and they don't clash: some of them are tried
+-- the variables of the set have the first value, and they don't clash: some of them are tried
 pub record IsTried (start at : Trying) (set : List ℕ) : Type 0 where
   pub same : SameButTried start at
   pub within : IsWithin at.tried (variables_in start.problem set)
-  pub negative : (v : ℕ) → Contains (variables_in start.problem set) v → Contains (closure (with_false at at.tried)) (negative_of v)
-  pub no_clash : clash (with_false at at.tried) ≡ false
+  pub valued : (v : ℕ) → Contains (variables_in start.problem set) v → Contains (closure (with_tried at at.tried)) (literal_with at.first v)
+  pub no_clash : clash (with_tried at at.tried) ≡ false
 
 module _ (start : Trying) where
   abbrev variables : List ℕ → List ℕ
   variables set = variables_in start.problem set
 
-  pub tried-start : (at : Trying) → at ≡ record start { tried = [] } → clash (with_false at at.tried) ≡ false → IsTried start at []
+  pub tried-start : (at : Trying) → at ≡ record start { tried = [] } → clash (with_tried at at.tried) ≡ false → IsTried start at []
   tried-start at e no_clash = record {
-    same = (ap (λ (s : Trying). s.problem) e, ap (λ (s : Trying). s.learned) e, ap (λ (s : Trying). s.fixed) e);
+    same = (ap (λ (s : Trying). s.problem) e, ap (λ (s : Trying). s.learned) e, ap (λ (s : Trying). s.fixed) e, ap (λ (s : Trying). s.first) e);
     within = (λ v m. absurd (none v (subst (λ (s : Trying). Contains s.tried v) e m)));
-    negative = (λ v m. absurd (none v m));
+    valued = (λ v m. absurd (none v m));
     no_clash = no_clash;
   }
 
@@ -193,9 +190,9 @@ module _ (start : Trying) where
     here = ap (λ (p : ClauseProblem). variables_in p (x ∷ [])) before.same.0
 
     pub tried-next : SameButTried old new → IsWithin new.tried (old.tried ++ variables_in old.problem (x ∷ [])) → IsWithin old.tried new.tried
-        → ((v : ℕ) → Contains (variables_in old.problem (x ∷ [])) v → Contains (closure (with_false new new.tried)) (negative_of v))
-        → clash (with_false new new.tried) ≡ false → IsTried start new (set ++ x ∷ [])
-    tried-next same within more negative no_clash = record {
+        → ((v : ℕ) → Contains (variables_in old.problem (x ∷ [])) v → Contains (closure (with_tried new new.tried)) (literal_with old.first v))
+        → clash (with_tried new new.tried) ≡ false → IsTried start new (set ++ x ∷ [])
+    tried-next same within more valued no_clash = record {
       same = same-transitive start old new before.same same;
       within = (λ v m.
           subst (λ vs. Contains vs v) (sym (variables-push set x))
@@ -203,18 +200,20 @@ module _ (start : Trying) where
           (λ (o : Contains old.tried v). Contains-append_left (variables set) (variables (x ∷ [])) v (before.within v o))
           (λ (n : Contains (variables_in old.problem (x ∷ [])) v). Contains-append_right (variables set) (variables (x ∷ [])) v (subst (λ vs. Contains vs v) here n))
           (Contains-append_cases old.tried (variables_in old.problem (x ∷ [])) v (within v m))));
-      negative = (λ v m.
+      valued = (λ v m.
           ⊎_elim
           (λ (o : Contains (variables set) v).
-          subst (λ clauses. Contains (closure clauses) (negative_of v)) (sym (with_false-same old new same new.tried))
-          (more-closed old old.tried new.tried more (negative_of v) (before.negative v o)))
-          (λ (n : Contains (variables (x ∷ [])) v). negative v (subst (λ vs. Contains vs v) (sym here) n))
+          subst (λ (value : Bool). Contains (closure (with_tried new new.tried)) (literal_with value v)) (sym same.3)
+          (subst (λ clauses. Contains (closure clauses) (literal_with old.first v)) (sym (with_tried-same old new same new.tried))
+          (more-closed old old.tried new.tried more (literal_with old.first v) (before.valued v o))))
+          (λ (n : Contains (variables (x ∷ [])) v).
+          subst (λ (value : Bool). Contains (closure (with_tried new new.tried)) (literal_with value v)) (sym same.3) (valued v (subst (λ vs. Contains vs v) (sym here) n)))
           (Contains-append_cases (variables set) (variables (x ∷ [])) v (subst (λ vs. Contains vs v) (variables-push set x) m)));
       no_clash = no_clash;
     }
 
     -- where one more clashes, a set that has them all does
-    pub tried-clash : (whole : List ℕ) → IsWithin (set ++ x ∷ []) whole → clash (with_false old (old.tried ++ variables_in old.problem (x ∷ []))) ≡ true → Clashes start whole
+    pub tried-clash : (whole : List ℕ) → IsWithin (set ++ x ∷ []) whole → clash (with_tried old (old.tried ++ variables_in old.problem (x ∷ []))) ≡ true → Clashes start whole
     tried-clash whole within e =
         (clashes-same start old before.same whole).0
         (more-clash old (old.tried ++ variables_in old.problem (x ∷ [])) (variables_in old.problem whole) (λ v m.
@@ -232,38 +231,38 @@ module _ (start : Trying) where
   -- and where none does, the whole set doesn't
   pub tried-no_clash : (at : Trying) (set : List ℕ) → IsTried start at set → Clashes start set → ⊥
   tried-no_clash at set is c =
-      let clauses = with_false at (variables set) in
-      let clashing : clash clauses ≡ true = ap clash (with_false-same start at is.same (variables set)) ∙ c in
+      let clauses = with_tried at (variables set) in
+      let clashing : clash clauses ≡ true = ap clash (with_tried-same start at is.same (variables set)) ∙ c in
       let refuted = refuted-from_clash clauses clashing in
-      no_clash_refuted refuted.0 refuted.1 (λ l m. same-closed at at.tried (variables set) is.within is.negative (negation l) (refuted.2 l m))
+      no_clash_refuted refuted.0 refuted.1 (λ l m. same-closed at at.tried (variables set) is.within is.valued (negation l) (refuted.2 l m))
     where
-      no_clash_refuted : (clause : List Lit) → Contains (with_false at (variables set)) clause → ((l : Lit) → Contains clause l → Contains (closure (with_false at at.tried)) (negation l)) → ⊥
+      no_clash_refuted : (clause : List Lit) → Contains (with_tried at (variables set)) clause → ((l : Lit) → Contains clause l → Contains (closure (with_tried at at.tried)) (negation l)) → ⊥
       no_clash_refuted clause m refuted =
           ⊎_elim
           (λ (old : Contains (at.problem.clauses ++ at.learned) clause).
-          false≢true (sym is.no_clash ∙ clash-from_refuted (with_false at at.tried) clause (Contains-append_left (at.problem.clauses ++ at.learned) (map unit_of (at.fixed ++ map negative_of at.tried)) clause old) refuted))
-          (λ (unit : Contains (map unit_of (at.fixed ++ map negative_of (variables set))) clause).
-          let of = from_map unit_of (at.fixed ++ map negative_of (variables set)) clause unit in
+          false≢true (sym is.no_clash ∙ clash-from_refuted (with_tried at at.tried) clause (Contains-append_left (at.problem.clauses ++ at.learned) (map unit_of (at.fixed ++ map (literal_with at.first) at.tried)) clause old) refuted))
+          (λ (unit : Contains (map unit_of (at.fixed ++ map (literal_with at.first) (variables set))) clause).
+          let of = from_map unit_of (at.fixed ++ map (literal_with at.first) (variables set)) clause unit in
           let negated = refuted of.0 (subst (λ c. Contains c of.0) of.2 (first of.0 [])) in
-          one_sign (with_false at at.tried) of.0 is.no_clash
+          one_sign (with_tried at at.tried) of.0 is.no_clash
           (⊎_elim
           (λ (stays : Contains at.fixed of.0).
-          unit-closed (with_false at at.tried) of.0
-          (Contains-append_right (at.problem.clauses ++ at.learned) (map unit_of (at.fixed ++ map negative_of at.tried)) (unit_of of.0)
-          (to_map unit_of (at.fixed ++ map negative_of at.tried) of.0 (Contains-append_left at.fixed (map negative_of at.tried) of.0 stays))))
-          (λ (new : Contains (map negative_of (variables set)) of.0).
-          let var = from_map negative_of (variables set) of.0 new in
-          subst (Contains (closure (with_false at at.tried))) var.2 (is.negative var.0 var.1))
-          (Contains-append_cases at.fixed (map negative_of (variables set)) of.0 of.1))
+          unit-closed (with_tried at at.tried) of.0
+          (Contains-append_right (at.problem.clauses ++ at.learned) (map unit_of (at.fixed ++ map (literal_with at.first) at.tried)) (unit_of of.0)
+          (to_map unit_of (at.fixed ++ map (literal_with at.first) at.tried) of.0 (Contains-append_left at.fixed (map (literal_with at.first) at.tried) of.0 stays))))
+          (λ (new : Contains (map (literal_with at.first) (variables set)) of.0).
+          let var = from_map (literal_with at.first) (variables set) of.0 new in
+          subst (Contains (closure (with_tried at at.tried))) var.2 (is.valued var.0 var.1))
+          (Contains-append_cases at.fixed (map (literal_with at.first) (variables set)) of.0 of.1))
           negated)
-          (Contains-append_cases (at.problem.clauses ++ at.learned) (map unit_of (at.fixed ++ map negative_of (variables set))) clause m)
+          (Contains-append_cases (at.problem.clauses ++ at.learned) (map unit_of (at.fixed ++ map (literal_with at.first) (variables set))) clause m)
 
 -- ---- the loop over the set
 
 -- nothing tried and a clash: every set clashes
-pub clash-start : (start at : Trying) → at ≡ record start { tried = [] } → clash (with_false at at.tried) ≡ true → (set : List ℕ) → Clashes start set
+pub clash-start : (start at : Trying) → at ≡ record start { tried = [] } → clash (with_tried at at.tried) ≡ true → (set : List ℕ) → Clashes start set
 clash-start start at e c set =
-    more-clash start [] (variables_in start.problem set) (λ v m. absurd (none v m)) (sym (ap (λ (s : Trying). clash (with_false s s.tried)) e) ∙ c)
+    more-clash start [] (variables_in start.problem set) (λ v m. absurd (none v m)) (sym (ap (λ (s : Trying). clash (with_tried s s.tried)) e) ∙ c)
 
 module _ (set : List ℕ) (i : ℕ) (inside : i < length set) where
   abbrev item : ℕ

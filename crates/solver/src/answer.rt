@@ -1,6 +1,11 @@
 //! What a search answers.
+ghost use Rattle.std.specs.Prelude.{◌≡◌, ◌↔◌, IsTrue};
+ghost use Rattle.clauses.specs.Search.{Limit, verdict_of};
+ghost use Rattle.solver.specs.Answers.{meaning};
+
 use clauses::Derivation;
 use lists::Row;
+use req_keys::Verdict;
 use std::alloc::{AllocError, AllocFailed};
 
 /// A value for each variable, by its number.
@@ -13,8 +18,28 @@ pub enum Answer {
     Sat(Assignment),
     /// None does: by this derivation.
     Unsat(Derivation),
-    /// At a clash with a decision as many clauses are learned as the problem allows.
+    /// At a clash with a decision the last attempt had learned as many clauses as it may.
     Limit,
+}
+
+impl Answer {
+    /// What the answer says of the requirements.
+    pub fn verdict(&self) -> Verdict
+        ensures { result ≡ verdict_of (meaning self.now) }
+    {
+        match self {
+            Answer::Sat(_) => Verdict::Sat,
+            Answer::Unsat(_) => Verdict::Unsat,
+            Answer::Limit => Verdict::Limit,
+        }
+    }
+
+    /// Whether the search may learn no more.
+    pub(crate) fn is_limit(&self) -> bool
+        ensures { IsTrue result ↔ (meaning self.now ≡ Limit) }
+    {
+        matches!(self, Answer::Limit)
+    }
 }
 
 /// Why a search has no answer.

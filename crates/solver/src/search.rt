@@ -1,13 +1,12 @@
 //! The turns of a search.
-ghost use Rattle.std.specs.Prelude.{◌≡◌, ◌≢◌, ◌<◌, ◌≤◌, [], ◌∷◌, ◌++◌, All, Contains, IfOk, IfSome, IsFalse, IsTrue, List, ℕ, OnErr, OnOk, length, map, not, reverse, Some, None};
+ghost use Rattle.std.specs.Prelude.{◌≡◌, ◌≢◌, ◌==◌, ◌<◌, ◌≤◌, [], ◌∷◌, ◌++◌, All, Contains, IfOk, IfSome, IsFalse, IsTrue, List, ℕ, OnErr, OnOk, length, map, not, reverse, Some, None};
 ghost use Rattle.lists.specs.Distinct.{IsDistinct};
 ghost use Rattle.pref_sets.specs.Preferred.{IsWithin};
 ghost use Rattle.clauses.specs.Closure.{clash, closure};
-ghost use Rattle.clauses.specs.Problem.{IsProblem};
-ghost use Rattle.clauses.specs.Search.{cut_after, open_variables, some_true, values_of};
+ghost use Rattle.clauses.specs.Search.{cut_after, open_variables, some_without, values_of};
 ghost use Rattle.solver.specs.Answers.{meaning};
-ghost use Rattle.solver.specs.inside.Searching.{Begins, IsShown, IsTurn, all_under, ended};
-ghost use Rattle.solver.specs.inside.Trials.{with_false};
+ghost use Rattle.solver.specs.inside.Searching.{AreSettled, AreShown, Begins, IsShown, IsTurn, all_under, ended};
+ghost use Rattle.solver.specs.inside.Trials.{with_tried};
 
 use crate::answer::{Answer, Assignment};
 use crate::trial::Trial;
@@ -30,8 +29,12 @@ pub(crate) enum Ending {
 pub(crate) struct Search<'a> {
     /// What is propagated.
     trial: Trial<'a>,
-    /// The variables that are decided false, in order. The trial has them up to the first that clashes.
+    /// The variables that are decided, in order. The trial has them up to the first that clashes.
     decisions: Vec<u32>,
+    /// How many clauses may be learned.
+    allowance: u64,
+    /// No variable below this one is open, so the search for the lowest goes on from here.
+    settled: u32,
 }
 
 impl<'a> Model for Search<'a> {
@@ -39,9 +42,9 @@ impl<'a> Model for Search<'a> {
 
     ghost Value = { Searching };
 
-    ghost view = { λ a. record { trial = a.trial; decisions = a.decisions.items } };
+    ghost view = { λ a. record { trial = a.trial; decisions = a.decisions.items; allowance = a.allowance } };
 
-    ghost invariant = { λ a. IsSearch a.trial a.decisions.items };
+    ghost invariant = { λ a. IsSearch a.trial a.decisions.items a.allowance a.settled };
 }
 
 impl<'a> Search<'a> {
@@ -50,15 +53,19 @@ impl<'a> Search<'a> {
         alloc: Global,
         problem: &'a Problem,
         key: &Key,
+        first: bool,
+        allowance: u64,
     ) -> Result<Option<Search<'a>>, AllocError>
         requires { key.now.n ≡ length problem.now.roots }
-        ensures { IfOk result (Begins problem.now key.now) }
+        ensures { IfOk result (Begins problem.now key.now first allowance) }
     {
-        match Trial::new(alloc, problem, key)? {
+        match Trial::new(alloc, problem, key, first)? {
             None => Ok(None),
             Some(trial) => Ok(Some(Search {
                 trial,
                 decisions: Vec::new(alloc),
+                allowance,
+                settled: 0,
             })),
         }
     }
@@ -77,8 +84,9 @@ impl<'a> Search<'a> {
         requires no_clash { IsFalse (clash (all_under self.now)) }
         ensures none { result ≡ None → open_variables self.now.trial.problem.variables (closure (all_under self.now)) ≡ [] }
         ensures some { IfSome result (λ lowest. (others : List ℕ) × (open_variables self.now.trial.problem.variables (closure (all_under self.now)) ≡ lowest ∷ others)) }
+        ensures below { IfSome result (AreSettled self.now) }
     {
-        for variable in 0..self.trial.problem().variables {
+        for variable in self.settled..self.trial.problem().variables {
             if self.trial.value(variable).is_none() {
                 return Some(variable);
             }
@@ -86,7 +94,7 @@ impl<'a> Search<'a> {
         None
     }
 
-    /// A turn without a clash: the lowest variable without a value is decided false.
+    /// A turn without a clash: the lowest variable without a value is decided.
     pub fn turn_at_rest(&mut self) -> Result<Option<Ending>, AllocError>
         requires shown { IsShown self.old }
         requires no_clash { IsFalse (clash (all_under self.old)) }
@@ -101,18 +109,28 @@ impl<'a> Search<'a> {
         }
     }
 
-    /// Decides the variable false.
+    /// Decides the variable, at the first value.
     fn decide(&mut self, variable: u32) -> Result<(), AllocError>
         requires shown { IsShown self.old }
         requires no_clash { IsFalse (clash (all_under self.old)) }
         requires variable { variable < self.old.trial.problem.variables }
         requires new { ¬ Contains self.old.decisions variable }
+        requires settled { AreSettled self.old variable }
         ensures trial { OnOk result (self.new.trial ≡ record self.old.trial { tried = self.old.decisions ++ variable ∷ [] }) }
         ensures decisions { OnOk result (self.new.decisions ≡ self.old.decisions ++ variable ∷ []) }
+        ensures allowance { self.new.allowance ≡ self.old.allowance }
     {
         self.decisions.push(variable)?;
         self.trial.decide(variable);
+        self.settled = variable;
         Ok(())
+    }
+
+    /// Whether no more may be learned.
+    fn is_spent(&self) -> bool
+        ensures { result ≡ (length self.now.trial.learned == self.now.allowance) }
+    {
+        self.trial.learned().len() as u64 == self.allowance
     }
 
     /// A turn with a clash: something is learned from it, if there is a decision and more may be learned.
@@ -124,7 +142,7 @@ impl<'a> Search<'a> {
         if self.decisions.is_empty() {
             return Ok(Some(Ending::Unsat));
         }
-        if self.trial.learned().len() as u64 == self.trial.problem().allowance {
+        if self.is_spent() {
             return Ok(Some(Ending::Limit));
         }
         let trimmed = trim(alloc, &mut self.trial, &self.decisions)?;
@@ -132,20 +150,22 @@ impl<'a> Search<'a> {
         Ok(None)
     }
 
-    /// Learns that these decisions aren't all false, and goes back to before the last of them but one.
+    /// Learns that these decisions don't all have the first value, and goes back to before the last of them but one.
     fn learn(&mut self, alloc: Global, trimmed: &[u32]) -> Result<(), AllocError>
         requires part { IsWithin trimmed.now self.old.decisions }
-        requires allowed { length self.old.trial.learned < self.old.trial.problem.allowance }
-        requires lawful { IsProblem self.old.trial.problem }
+        requires allowed { length self.old.trial.learned < self.old.allowance }
         ensures decisions { OnOk result (self.new.decisions ≡ cut_after self.old.decisions (reverse trimmed.now)) }
-        ensures learned { OnOk result (self.new.trial.learned ≡ self.old.trial.learned ++ some_true trimmed.now ∷ []) }
+        ensures learned { OnOk result (self.new.trial.learned ≡ self.old.trial.learned ++ some_without self.old.trial.first trimmed.now ∷ []) }
         ensures problem { self.new.trial.problem ≡ self.old.trial.problem }
         ensures fixed { self.new.trial.fixed ≡ self.old.trial.fixed }
+        ensures first { self.new.trial.first ≡ self.old.trial.first }
+        ensures allowance { self.new.allowance ≡ self.old.allowance }
         ensures shown { OnOk result (IsShown self.new) }
     {
-        let clause = some_true(alloc, trimmed)?;
+        let clause = some_without(alloc, self.trial.first(), trimmed)?;
         self.trial.learn(clause.as_slice())?;
         cut(&mut self.decisions, trimmed);
+        self.settled = 0;
         try_all(&mut self.trial, &self.decisions);
         Ok(())
     }
@@ -182,15 +202,15 @@ impl<'a> Search<'a> {
     }
 }
 
-/// The clause that says that one of the variables is true.
-fn some_true(alloc: Global, variables: &[u32]) -> Result<Clause, AllocError>
-    ensures { IfOk result (λ clause. clause ≡ some_true variables.now) }
+/// The clause that says that one of the variables hasn't the value.
+fn some_without(alloc: Global, value: bool, variables: &[u32]) -> Result<Clause, AllocError>
+    ensures { IfOk result (λ clause. clause ≡ some_without value variables.now) }
 {
     let mut clause = Clause::new(alloc);
     for variable in variables {
         clause.push(Lit {
             var: *variable,
-            positive: true,
+            positive: !value,
         })?;
     }
     Ok(clause)
@@ -216,7 +236,7 @@ fn try_all(trial: &mut Trial<'_>, decisions: &[u32])
     requires distinct { IsDistinct decisions.now }
     requires below { All (λ variable. variable < trial.old.problem.variables) decisions.now }
     ensures same { trial.new ≡ record trial.old { tried = trial.new.tried } }
-    ensures shown { IsShown (record { trial = trial.new; decisions = decisions.now }) }
+    ensures shown { AreShown trial.new decisions.now }
 {
     trial.reset();
     for variable in decisions {

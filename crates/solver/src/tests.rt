@@ -24,6 +24,7 @@ fn problem_of(alloc: Global, row: &Row) -> Result<Problem, AllocError> {
         clauses: clauses_of(alloc, 6, row.clauses)?,
         roots,
         allowance: u64::from(row.allowance),
+        rungs: row.rungs.min(4),
     })
 }
 
@@ -35,7 +36,9 @@ struct Row {
     roots: &'static [u8; 2],
     /// Whether the roots are asked for.
     with_roots: bool,
-    allowance: u8,
+    allowance: u16,
+    /// At most 4.
+    rungs: u8,
     /// The values, `limit`, or the lines, each with a full stop behind it.
     answer: &'static str,
 }
@@ -50,14 +53,25 @@ const ONE_OF_TWO: &[&str] = &["bde", "bdE"];
 const THREE_NEEDED: &[&str] = &["acef", "aceF", "aEf", "aEF"];
 
 /// A row without roots.
-fn plain(clauses: &'static [&'static str], allowance: u8, answer: &'static str) -> Row {
+fn rising(
+    clauses: &'static [&'static str],
+    allowance: u16,
+    rungs: u8,
+    answer: &'static str,
+) -> Row {
     Row {
         clauses,
         roots: b"  ",
         with_roots: false,
         allowance,
+        rungs,
         answer,
     }
+}
+
+/// One with a single attempt.
+fn plain(clauses: &'static [&'static str], allowance: u16, answer: &'static str) -> Row {
+    rising(clauses, allowance, 0, answer)
 }
 
 /// A row with two roots, in which nothing may be learned.
@@ -72,12 +86,13 @@ fn rooted(
         roots,
         with_roots,
         allowance: 0,
+        rungs: 0,
         answer,
     }
 }
 
 /// Worked by hand.
-fn rows() -> [Row; 19] {
+fn rows() -> [Row; 24] {
     [
         plain(&[], 0, "000000"),
         plain(&["b"], 0, "010000"),
@@ -99,6 +114,12 @@ fn rows() -> [Row; 19] {
         plain(CUBE, 1, "limit"),
         plain(CUBE, 2, "limit"),
         plain(CUBE, 3, "bc.b.c.."),
+        // the second attempt decides true
+        rising(ONE_OF_TWO, 0, 1, "111111"),
+        rising(CUBE, 0, 1, "limit"),
+        rising(CUBE, 1, 1, "BC.B.C.."),
+        rising(CUBE, 3, 1, "bc.b.c.."),
+        rising(&["a", "bc", "bC", "Bc", "BC"], 0, 4, "limit"),
     ]
 }
 
@@ -204,7 +225,9 @@ fn asks_at_each(alloc: Global, row: &Row, clashes: u8) -> Result<bool, Fail> {
 #[test]
 fn asks_at_each_clash(rt: HostRuntime) -> Result<(), Fail> {
     // Three clashes are learned from, and the last has no decision.
-    assert!(rt; asks_at_each(rt.alloc(), &plain(CUBE, 3, "bc.b.c.."), 4)?);
+    assert!(rt; asks_at_each(rt.alloc(), &plain(CUBE, 10_000, "bc.b.c.."), 4)?);
+    // After two clashes the first attempt may learn no more.
+    assert!(rt; asks_at_each(rt.alloc(), &rising(CUBE, 1, 1, "BC.B.C.."), 6)?);
     assert!(rt; asks_at_each(rt.alloc(), &plain(CUBE, 0, "limit"), 1)?);
     assert!(rt; asks_at_each(rt.alloc(), &rooted(&[], b"aA", true, "."), 1)?);
     assert!(rt; asks_at_each(rt.alloc(), &plain(&["b"], 0, "010000"), 0)?);

@@ -1,11 +1,11 @@
 //! Trying which decisions clash together.
 ghost use Rattle.std.specs.Prelude.{◌≡◌, ◌<◌, ℕ, [], ◌∷◌, ◌++◌, Contains, IfOk, IsFalse, IsTrue, OnErr, OnOk, All, length, not};
 ghost use Rattle.pref_sets.specs.Preferred.{IsWithin};
-ghost use Rattle.clauses.specs.Clause.{negative_of};
+ghost use Rattle.clauses.specs.Clause.{literal_with};
 ghost use Rattle.clauses.specs.Closure.{clash, closure};
 ghost use Rattle.clauses.specs.Problem.{IsBelow, IsProblem};
 ghost use Rattle.propagation.specs.Propagation.{value_of};
-ghost use Rattle.solver.specs.inside.Trials.{Clashes, SameButTried, Starts, variables_in, with_false};
+ghost use Rattle.solver.specs.inside.Trials.{Clashes, SameButTried, Starts, variables_in, with_tried};
 
 use clauses::{Clauses, Lit, Problem};
 use pref_sets::MonotoneTest;
@@ -14,17 +14,17 @@ use req_keys::Key;
 use std::alloc::{AllocError, Global};
 use std::marker::Model;
 
-/// The literal that says that the variable is false.
-fn negative_of(variable: u32) -> Lit
-    ensures { result ≡ negative_of variable }
+/// The literal that says that the variable has this value.
+fn literal_with(value: bool, variable: u32) -> Lit
+    ensures { result ≡ literal_with value variable }
 {
     Lit {
         var: variable,
-        positive: false,
+        positive: value,
     }
 }
 
-/// A propagator whose first assumed literals stay; behind them variables are tried as false.
+/// A propagator whose first assumed literals stay; behind them variables are tried at the first value.
 #[derive(Drop)]
 pub(crate) struct Trial<'a> {
     /// What is searched.
@@ -33,6 +33,8 @@ pub(crate) struct Trial<'a> {
     propagator: Propagator<'a>,
     /// How many of the assumed literals stay.
     fixed: u32,
+    /// The value at which variables are tried.
+    first: bool,
 }
 
 impl<'a> Model for Trial<'a> {
@@ -41,9 +43,9 @@ impl<'a> Model for Trial<'a> {
 
     ghost Value = { Trying };
 
-    ghost view = { λ a. record { problem = a.problem.now; learned = a.propagator.learned; fixed = take a.fixed a.propagator.assumed; tried = tried_of a.propagator a.fixed } };
+    ghost view = { λ a. record { problem = a.problem.now; learned = a.propagator.learned; fixed = take a.fixed a.propagator.assumed; tried = tried_of a.propagator a.fixed; first = a.first } };
 
-    ghost invariant = { λ a. IsTrial a.problem.now a.propagator a.fixed };
+    ghost invariant = { λ a. IsTrial a.problem.now a.first a.propagator a.fixed };
 }
 
 impl<'a> Trial<'a> {
@@ -52,9 +54,10 @@ impl<'a> Trial<'a> {
         alloc: Global,
         problem: &'a Problem,
         key: &Key,
+        first: bool,
     ) -> Result<Option<Trial<'a>>, AllocError>
         requires { key.now.n ≡ length problem.now.roots }
-        ensures { IfOk result (Starts problem.now key.now) }
+        ensures { IfOk result (Starts problem.now key.now first) }
     {
         let same = key.n() == problem.n();
         prove!(same);
@@ -64,6 +67,7 @@ impl<'a> Trial<'a> {
                 problem,
                 propagator,
                 fixed: key.len(),
+                first,
             })),
         }
     }
@@ -76,18 +80,25 @@ impl<'a> Trial<'a> {
         self.problem
     }
 
+    /// The value at which variables are tried.
+    pub fn first(&self) -> bool
+        ensures { result ≡ self.now.first }
+    {
+        self.first
+    }
+
     /// Whether what is tried clashes.
     pub fn clashes(&self) -> bool
-        ensures { result ≡ clash (with_false self.now self.now.tried) }
+        ensures { result ≡ clash (with_tried self.now self.now.tried) }
     {
         self.propagator.clashes()
     }
 
     /// What the closure says of the variable.
     pub fn value(&self, variable: u32) -> Option<bool>
-        requires no_clash { IsFalse (clash (with_false self.now self.now.tried)) }
+        requires no_clash { IsFalse (clash (with_tried self.now self.now.tried)) }
         requires variable { variable < self.now.problem.variables }
-        ensures { result ≡ value_of (with_false self.now self.now.tried) variable }
+        ensures { result ≡ value_of (with_tried self.now self.now.tried) variable }
     {
         self.propagator.value(variable)
     }
@@ -109,45 +120,46 @@ impl<'a> Trial<'a> {
         Ok(())
     }
 
-    /// Tries another variable as false, and answers whether nothing clashes.
+    /// Tries another variable, and answers whether nothing clashes.
     pub fn decide(&mut self, variable: u32) -> bool
-        requires no_clash { IsFalse (clash (with_false self.old self.old.tried)) }
+        requires no_clash { IsFalse (clash (with_tried self.old self.old.tried)) }
         requires variable { variable < self.old.problem.variables }
         requires new { ¬ Contains self.old.tried variable }
         ensures tried { self.new ≡ record self.old { tried = self.old.tried ++ variable ∷ [] } }
-        ensures no_clash { result ≡ not (clash (with_false self.new self.new.tried)) }
+        ensures no_clash { result ≡ not (clash (with_tried self.new self.new.tried)) }
     {
-        self.propagator.assume(negative_of(variable))
+        self.propagator.assume(literal_with(self.first, variable))
     }
 
-    /// Sees to it that the variable is false, and answers whether nothing clashes.
-    fn is_false_too(&mut self, variable: u32) -> bool
-        requires no_clash { IsFalse (clash (with_false self.old self.old.tried)) }
+    /// Sees to it that the variable has the first value, and answers whether nothing clashes.
+    fn is_valued_too(&mut self, variable: u32) -> bool
+        requires no_clash { IsFalse (clash (with_tried self.old self.old.tried)) }
         requires variable { variable < self.old.problem.variables }
         ensures same { SameButTried self.old self.new }
         ensures within { IsWithin self.new.tried (self.old.tried ++ variable ∷ []) }
         ensures more { IsWithin self.old.tried self.new.tried }
-        ensures negative { IsTrue result → Contains (closure (with_false self.new self.new.tried)) (negative_of variable) }
-        ensures no_clash { IsTrue result → IsFalse (clash (with_false self.new self.new.tried)) }
-        ensures clash { IsFalse result → IsTrue (clash (with_false self.old (self.old.tried ++ variable ∷ []))) }
+        ensures valued { IsTrue result → Contains (closure (with_tried self.new self.new.tried)) (literal_with self.old.first variable) }
+        ensures no_clash { IsTrue result → IsFalse (clash (with_tried self.new self.new.tried)) }
+        ensures clash { IsFalse result → IsTrue (clash (with_tried self.old (self.old.tried ++ variable ∷ []))) }
     {
-        self.propagator.make_true(negative_of(variable))
+        self.propagator
+            .make_true(literal_with(self.first, variable))
     }
 
     /// The same for any number; one that is no variable changes nothing.
     fn try_number(&mut self, number: u32) -> bool
-        requires { IsFalse (clash (with_false self.old self.old.tried)) }
+        requires { IsFalse (clash (with_tried self.old self.old.tried)) }
         ensures same { SameButTried self.old self.new }
         ensures within { IsWithin self.new.tried (self.old.tried ++ variables_in self.old.problem (number ∷ [])) }
         ensures more { IsWithin self.old.tried self.new.tried }
-        ensures negative { IsTrue result → (variable : ℕ) → Contains (variables_in self.old.problem (number ∷ [])) variable → Contains (closure (with_false self.new self.new.tried)) (negative_of variable) }
-        ensures no_clash { IsTrue result → IsFalse (clash (with_false self.new self.new.tried)) }
-        ensures clash { IsFalse result → IsTrue (clash (with_false self.old (self.old.tried ++ variables_in self.old.problem (number ∷ [])))) }
+        ensures valued { IsTrue result → (variable : ℕ) → Contains (variables_in self.old.problem (number ∷ [])) variable → Contains (closure (with_tried self.new self.new.tried)) (literal_with self.old.first variable) }
+        ensures no_clash { IsTrue result → IsFalse (clash (with_tried self.new self.new.tried)) }
+        ensures clash { IsFalse result → IsTrue (clash (with_tried self.old (self.old.tried ++ variables_in self.old.problem (number ∷ [])))) }
     {
         if number >= self.problem().variables {
             return true;
         }
-        self.is_false_too(number)
+        self.is_valued_too(number)
     }
 
     /// The learned clauses so far.

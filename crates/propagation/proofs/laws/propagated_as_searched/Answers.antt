@@ -8,12 +8,12 @@ use Rattle.propagation.proofs.GrowthLaws.{more_assumed, searched-there, searched
 use Rattle.propagation.proofs.laws.propagated_as_searched.Goals as goal
 
 pub returns-clause-clash : goal.returns-clause-clash
-returns-clause-clash c = λ problem key now.
-    clash-same (propagated (as_searched problem key now)) (under (clauses_with problem key) now) (searched-there problem key now) (searched-back problem key now)
+returns-clause-clash c = λ problem key first now.
+    clash-same (propagated (as_searched problem key first now)) (under first (clauses_with problem key) now) (searched-there problem key first now) (searched-back problem key first now)
 
 pub returns-clause-values : goal.returns-clause-values
-returns-clause-values c = λ problem key now.
-    value-same (propagated (as_searched problem key now)) (under (clauses_with problem key) now) (searched-there problem key now) (searched-back problem key now)
+returns-clause-values c = λ problem key first now.
+    value-same (propagated (as_searched problem key first now)) (under first (clauses_with problem key) now) (searched-there problem key first now) (searched-back problem key first now)
 
 pub returns-clause-more : goal.returns-clause-more
 returns-clause-more c = λ at more.

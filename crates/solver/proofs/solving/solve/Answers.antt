@@ -1,99 +1,60 @@
-use Rattle.std.proofs.Common.{◌≡◌, ◌∙◌, sym, ap, subst, [], ◌∷◌, Some, arith}
+use Rattle.std.proofs.Common.{◌≡◌, ◌∙◌, ℕ, sym, ap, subst, ◌<◌, ◌≤◌, Some, arith}
+use Rattle.std.specs.Prelude.{option_map}
+use Rattle.std.proofs.lemmas.Bool.{both_ways}
 use Rattle.std.proofs.lemmas.Result.{IfOk-weaker}
-use Rattle.clauses.specs.Search.{Unsat, search_of}
+use Rattle.req_keys.specs.Key.{PositionSet}
+use Rattle.clauses.specs.Problem.{ClauseProblem}
+use Rattle.clauses.specs.Search.{Limit, attempt_of, search_of, verdict_of, verdict_on}
+use Rattle.solver.specs.declared.answer.Answer.{Answer}
 use Rattle.solver.specs.Answers.{IsRight, meaning}
-use Rattle.solver.specs.inside.Searching.{Begins, IsTurn}
-use Rattle.solver.proofs.SolveLaws.{IsGoing, going-start, going-on, going-ends, shown-at_end, one-left, none-left, refuted-at_start, right-answer}
+use Rattle.solver.proofs.SolveLaws.{answer-found, answer-last, right-answer}
 use Rattle.solver.proofs.solving.solve.Goals as goal
 
-pub loop-init : goal.loop-init
-loop-init g c = (
-  c.turns-end.result,
-  (omega arith),
-  subst (IsGoing c.args.problem.now c.args.key.now c.in-Some.search) (sym c.turns-end.ensures)
-      (going-start c.args.problem.now c.args.key.now c.in-Some.search (subst (Begins c.args.problem.now c.args.key.now) c.in-Some.is c.in_ok-search.ensures)),
-  (omega arith),
-  g.met.S.Stop.reflexive c.args.stop.now,
-)
+pub returns-then-not-is_limit-clause-answer : goal.returns-then-not-is_limit-clause-answer
+returns-then-not-is_limit-clause-answer g c =
+    let inside = subst (λ (p : ClauseProblem). c.loop-number.number < p.rungs) c.problem.view_is c.loop-number-test.true in
+    answer-found c.args.problem.now c.args.key.now c.loop-number.number c.in_ok-answer.answer inside c.loop-number.invariant.before c.in_ok-answer.ensures.answer
+    (λ e. both_ways c.is_limit.result c.if-not-is_limit.true (c.is_limit.ensures.1 e))
 
-pub turn-requires : goal.turn-requires
-turn-requires g c = c.loop.invariant.2.shown
+pub returns-then-not-is_limit-clause-verdict : goal.returns-then-not-is_limit-clause-verdict
+returns-then-not-is_limit-clause-verdict g c =
+    let inside = subst (λ (p : ClauseProblem). c.loop-number.number < p.rungs) c.problem.view_is c.loop-number-test.true in
+    ap (option_map verdict_of)
+    (answer-found c.args.problem.now c.args.key.now c.loop-number.number c.in_ok-answer.answer inside c.loop-number.invariant.before c.in_ok-answer.ensures.answer
+    (λ e. both_ways c.is_limit.result c.if-not-is_limit.true (c.is_limit.ensures.1 e)))
 
-pub returns-in_err-ending-clause-never_falls : goal.returns-in_err-ending-clause-never_falls
-returns-in_err-ending-clause-never_falls g c = let before = c.loop.invariant.3 in let turn = c.turn.ensures.never_falls in omega arith
+pub returns-then-not-is_limit-clause-right : goal.returns-then-not-is_limit-clause-right
+returns-then-not-is_limit-clause-right g c =
+    let inside = subst (λ (p : ClauseProblem). c.loop-number.number < p.rungs) c.problem.view_is c.loop-number-test.true in
+    right-answer c.args.problem.now c.args.key.now c.n-2.ensures.problem c.in_ok-answer.answer
+    (answer-found c.args.problem.now c.args.key.now c.loop-number.number c.in_ok-answer.answer inside c.loop-number.invariant.before c.in_ok-answer.ensures.answer
+    (λ e. both_ways c.is_limit.result c.if-not-is_limit.true (c.is_limit.ensures.1 e)))
 
-pub returns-in_err-ending-clause-stays : goal.returns-in_err-ending-clause-stays
-returns-in_err-ending-clause-stays g c = g.met.S.Stop.transitive c.args.stop.now c.loop.stop c.turn.new.stop c.loop.invariant.4 c.turn.ensures.stays
-
-pub returns-in_err-into_answer-clause-never_falls : goal.returns-in_err-into_answer-clause-never_falls
-returns-in_err-into_answer-clause-never_falls g c = let before = c.loop.invariant.3 in let turn = c.turn.ensures.never_falls in omega arith
-
-pub returns-in_err-into_answer-clause-stays : goal.returns-in_err-into_answer-clause-stays
-returns-in_err-into_answer-clause-stays g c = g.met.S.Stop.transitive c.args.stop.now c.loop.stop c.turn.new.stop c.loop.invariant.4 c.turn.ensures.stays
-
-pub returns-in-Some-2-clause-never_falls : goal.returns-in-Some-2-clause-never_falls
-returns-in-Some-2-clause-never_falls g c = let before = c.loop.invariant.3 in let turn = c.turn.ensures.never_falls in omega arith
-
-pub returns-in-Some-2-clause-stays : goal.returns-in-Some-2-clause-stays
-returns-in-Some-2-clause-stays g c = g.met.S.Stop.transitive c.args.stop.now c.loop.stop c.turn.new.stop c.loop.invariant.4 c.turn.ensures.stays
-
-pub into_answer-requires-clause-shown : goal.into_answer-requires-clause-shown
-into_answer-requires-clause-shown g c =
-    let left = one-left c.args.problem.now c.args.key.now c.loop.search c.loop.counter c.loop.invariant.0 c.turns-end.result c.loop.invariant.1 c.loop.invariant.2 c.loop-test.true in
-    shown-at_end c.args.problem.now c.args.key.now c.loop.search left.0 left.2 c.turn.new.search c.in-Some-2.ending
-    (subst (IsTurn c.loop.search c.turn.new.search) c.in-Some-2.is c.in_ok-ending.ensures.turn)
-
-pub returns-in-Some-2-clause-answer : goal.returns-in-Some-2-clause-answer
-returns-in-Some-2-clause-answer g c =
-    let left = one-left c.args.problem.now c.args.key.now c.loop.search c.loop.counter c.loop.invariant.0 c.turns-end.result c.loop.invariant.1 c.loop.invariant.2 c.loop-test.true in
-    going-ends c.args.problem.now c.args.key.now c.loop.search left.0 left.2 c.turn.new.search c.in-Some-2.ending
-    (subst (IsTurn c.loop.search c.turn.new.search) c.in-Some-2.is c.in_ok-ending.ensures.turn)
-    ∙ ap Some (sym c.in_ok-into_answer.ensures)
-
-pub loop-preserved : goal.loop-preserved
-loop-preserved g c =
-    let left = one-left c.args.problem.now c.args.key.now c.loop.search c.loop.counter c.loop.invariant.0 c.turns-end.result c.loop.invariant.1 c.loop.invariant.2 c.loop-test.true in (
-      left.0,
-      left.1,
-      going-on c.args.problem.now c.args.key.now c.loop.search left.0 left.2 c.turn.new.search
-          (subst (IsTurn c.loop.search c.turn.new.search) c.in_default-2.is c.in_ok-ending.ensures.turn),
-      (let before = c.loop.invariant.3 in let turn = c.turn.ensures.never_falls in omega arith),
-      g.met.S.Stop.transitive c.args.stop.now c.loop.stop c.turn.new.stop c.loop.invariant.4 c.turn.ensures.stays,
-    )
+-- the last attempt
+module _ (problem : ClauseProblem) (key : PositionSet) (rungs number : ℕ) (same : rungs ≡ problem.rungs) (end : rungs ≤ number) (before : (earlier : ℕ) → earlier < number → attempt_of problem key earlier ≡ Some Limit) where
+  found : (given : Answer) → attempt_of problem key rungs ≡ Some (meaning given) → search_of problem key ≡ Some (meaning given)
+  found given e = answer-last problem key given (λ earlier l. before earlier (omega arith)) (ap (attempt_of problem key) (sym same) ∙ e)
 
 pub returns-clause-answer : goal.returns-clause-answer
-returns-clause-answer g c = absurd (none-left c.args.problem.now c.args.key.now c.loop.search c.loop.counter c.loop.invariant.0 c.turns-end.result c.loop.invariant.1 c.loop.invariant.2 c.loop-test.false)
+returns-clause-answer g c =
+    let problem : ClauseProblem = c.args.problem.now in
+    let key = c.args.key.now in
+    IfOk-weaker c.attempt-2.result (λ answer. attempt_of problem key c.problem.inside.rungs ≡ Some (meaning answer)) (λ answer. search_of problem key ≡ Some (meaning answer))
+    (λ answer e. found problem key c.problem.inside.rungs c.loop-number.number (ap (λ (p : ClauseProblem). p.rungs) c.problem.view_is) c.loop-number-test.false c.loop-number.invariant.before answer e)
+    c.attempt-2.ensures.answer
 
-pub returns-clause-never_falls : goal.returns-clause-never_falls
-returns-clause-never_falls g c = c.loop.invariant.3
-
-pub returns-clause-stays : goal.returns-clause-stays
-returns-clause-stays g c = c.loop.invariant.4
-
-pub returns-in_default-clause-answer : goal.returns-in_default-clause-answer
-returns-in_default-clause-answer g c =
-    IfOk-weaker c.refuted.result (λ answer. meaning answer ≡ Unsat ([] ∷ [])) (λ answer. search_of c.args.problem.now c.args.key.now ≡ Some (meaning answer))
-    (λ answer same.
-    refuted-at_start c.args.problem.now c.args.key.now (subst (Begins c.args.problem.now c.args.key.now) c.in_default.is c.in_ok-search.ensures)
-    ∙ ap Some (sym same))
-    c.refuted.ensures.answer
-
-pub returns-in_default-clause-right : goal.returns-in_default-clause-right
-returns-in_default-clause-right g c =
-    IfOk-weaker c.refuted.result (λ answer. meaning answer ≡ Unsat ([] ∷ [])) (IsRight c.args.problem.now c.args.key.now)
-    (λ answer same.
-    right-answer c.args.problem.now c.args.key.now c.n-2.ensures.problem answer
-    (refuted-at_start c.args.problem.now c.args.key.now (subst (Begins c.args.problem.now c.args.key.now) c.in_default.is c.in_ok-search.ensures)
-    ∙ ap Some (sym same)))
-    c.refuted.ensures.answer
-
-pub returns-in-Some-2-clause-right : goal.returns-in-Some-2-clause-right
-returns-in-Some-2-clause-right g c =
-    let left = one-left c.args.problem.now c.args.key.now c.loop.search c.loop.counter c.loop.invariant.0 c.turns-end.result c.loop.invariant.1 c.loop.invariant.2 c.loop-test.true in
-    right-answer c.args.problem.now c.args.key.now c.n-2.ensures.problem c.in_ok-into_answer.field-0
-    (going-ends c.args.problem.now c.args.key.now c.loop.search left.0 left.2 c.turn.new.search c.in-Some-2.ending
-    (subst (IsTurn c.loop.search c.turn.new.search) c.in-Some-2.is c.in_ok-ending.ensures.turn)
-    ∙ ap Some (sym c.in_ok-into_answer.ensures))
+pub returns-clause-verdict : goal.returns-clause-verdict
+returns-clause-verdict g c =
+    let problem : ClauseProblem = c.args.problem.now in
+    let key = c.args.key.now in
+    IfOk-weaker c.attempt-2.result (λ answer. attempt_of problem key c.problem.inside.rungs ≡ Some (meaning answer)) (λ answer. verdict_on problem key ≡ Some (verdict_of (meaning answer)))
+    (λ answer e. ap (option_map verdict_of) (found problem key c.problem.inside.rungs c.loop-number.number (ap (λ (p : ClauseProblem). p.rungs) c.problem.view_is) c.loop-number-test.false c.loop-number.invariant.before answer e))
+    c.attempt-2.ensures.answer
 
 pub returns-clause-right : goal.returns-clause-right
-returns-clause-right g c = absurd (none-left c.args.problem.now c.args.key.now c.loop.search c.loop.counter c.loop.invariant.0 c.turns-end.result c.loop.invariant.1 c.loop.invariant.2 c.loop-test.false)
+returns-clause-right g c =
+    let problem : ClauseProblem = c.args.problem.now in
+    let key = c.args.key.now in
+    IfOk-weaker c.attempt-2.result (λ answer. attempt_of problem key c.problem.inside.rungs ≡ Some (meaning answer)) (IsRight problem key)
+    (λ answer e. right-answer problem key c.n-2.ensures.problem answer (found problem key c.problem.inside.rungs c.loop-number.number (ap (λ (p : ClauseProblem). p.rungs) c.problem.view_is) c.loop-number-test.false c.loop-number.invariant.before answer e))
+    c.attempt-2.ensures.answer

@@ -1,9 +1,10 @@
-use Rattle.std.proofs.Common.{◌≡◌, ◌+◌, ◌≤◌, ℕ}
-use Rattle.solver.proofs.SolveLaws.{IsGoing}
+use Rattle.std.proofs.Common.{◌≡◌, ◌<◌, ◌≤◌, ℕ, Some}
+use Rattle.clauses.specs.Search.{Limit, attempt_of}
 use Rattle.solver.proofs.solving.solve.Given as goal
 
-abbrev pub invariant-loop : goal.invariant-loop
-invariant-loop g l =
-    (left : ℕ) × (l.counter + left ≡ l.end) × IsGoing l.fn.problem l.fn.key l.search left
-    × (g.S.Stop.raised l.fn.stop ≤ g.S.Stop.raised l.stop)
-    × g.S.Stop.stays l.fn.stop l.stop
+abbrev pub invariant-loop-number : goal.invariant-loop-number
+invariant-loop-number g l = record {
+  before : (earlier : ℕ) → earlier < l.number → attempt_of l.fn.problem l.fn.key earlier ≡ Some Limit;
+  never_falls : g.S.Stop.raised l.fn.stop ≤ g.S.Stop.raised l.stop;
+  stays : g.S.Stop.stays l.fn.stop l.stop;
+}

@@ -5,14 +5,14 @@ use Rattle.clauses.specs.Search.{cut_after}
 use Rattle.solver.specs.inside.Trials.{Trying}
 use Rattle.solver.specs.inside.Searching.{Searching, IsSearch}
 use Rattle.clauses.proofs.Cuts.{cut-distinct, cut-within}
-use Rattle.solver.proofs.SearchLaws.{some_true-below, within-below, search-learns}
+use Rattle.solver.proofs.SearchLaws.{some_without-below, within-below, search-learns}
 use Rattle.solver.proofs.search.Search.learn.Goals as goal
 
 pub learn-requires : goal.learn-requires
 learn-requires c =
     let n = c.self.inside.trial.problem.variables in
     subst (All (IsBelow n)) (sym (c.as_slice.ensures ∙ c.in_ok-clause.ensures))
-    (some_true-below n c.self.inside.decisions.items c.args.trimmed.now c.self.invariant.below
+    (some_without-below c.first.result n c.self.inside.decisions.items c.args.trimmed.now c.self.invariant.below
     (subst (λ (s : Searching). IsWithin c.args.trimmed.now s.decisions) (sym c.self.view_is) c.requires.part))
 
 pub try_all-requires-clause-distinct : goal.try_all-requires-clause-distinct
@@ -30,10 +30,10 @@ try_all-requires-clause-below c =
 
 pub invariant_of-self-2 : goal.invariant_of-self-2
 invariant_of-self-2 c =
-    let allowed : length c.self.inside.trial.learned < c.self.inside.trial.problem.allowance =
-    subst (λ (s : Searching). length s.trial.learned < s.trial.problem.allowance) (sym c.self.view_is) c.requires.allowed in
+    let allowed : length c.self.inside.trial.learned < c.self.inside.allowance =
+    subst (λ (s : Searching). length s.trial.learned < s.allowance) (sym c.self.view_is) c.requires.allowed in
     let tried : List ℕ = c.try_all.new.trial.tried in
     let now = c.try_all.ensures.same ∙ ap (λ (t : Trying). record t { tried = tried }) c.in_ok-learn.ensures.ok in
-    subst (λ (t : Trying). IsSearch t c.cut.new.decisions.items) (sym now)
-    (subst (λ (ds : List ℕ). IsSearch (record c.self.inside.trial { learned = c.self.inside.trial.learned ++ c.as_slice.result.now ∷ []; tried = tried }) ds) (sym c.cut.ensures)
-    (search-learns c.self.inside.trial c.self.inside.decisions.items c.self.invariant allowed c.as_slice.result.now (reverse c.args.trimmed.now) tried))
+    subst (λ (t : Trying). IsSearch t c.cut.new.decisions.items c.self.inside.allowance 0) (sym now)
+    (subst (λ (ds : List ℕ). IsSearch (record c.self.inside.trial { learned = c.self.inside.trial.learned ++ c.as_slice.result.now ∷ []; tried = tried }) ds c.self.inside.allowance 0) (sym c.cut.ensures)
+    (search-learns c.self.inside.trial c.self.inside.decisions.items c.self.inside.allowance c.self.inside.settled c.self.invariant allowed c.as_slice.result.now (reverse c.args.trimmed.now) tried))

@@ -1,6 +1,5 @@
 use Rattle.std.proofs.Common.{◌≡◌, ◌<◌, ℕ, false}
-use Rattle.solver.specs.inside.Searching.{all_under}
-use Rattle.solver.proofs.SearchLaws.{is_open}
+use Rattle.solver.specs.inside.Searching.{all_under, is_open}
 use Rattle.solver.proofs.search.Search.lowest_open.Given as goal
 
 abbrev pub invariant-loop-variable : goal.invariant-loop-variable

@@ -14,4 +14,4 @@ decide-requires-clause-variable c =
 pub decide-requires-clause-new : goal.decide-requires-clause-new
 decide-requires-clause-new c =
     let now : Searching = c.args.self.now in
-    open-new (clauses_of now.trial) (standing now) now.trial.problem.variables c.in-Some.variable c.in-Some.ensures.some.0 c.in-Some.ensures.some.1
+    open-new now.trial.first (clauses_of now.trial) (standing now) now.trial.problem.variables c.in-Some.variable c.in-Some.ensures.some.0 c.in-Some.ensures.some.1

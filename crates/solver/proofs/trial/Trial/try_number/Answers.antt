@@ -9,4 +9,4 @@ pub returns-clause-within : goal.returns-clause-within
 returns-clause-within c =
     let below : c.args.number < c.args.self.now.problem.variables =
     subst (λ (p : ClauseProblem). c.args.number < p.variables) (c.behind-self.view_is ∙ c.problem.ensures.problem) c.if-number-problem.false in
-    subst (λ variables. IsWithin c.is_false_too.new.self.tried (c.args.self.now.tried ++ variables)) (sym (one-inside c.args.self.now.problem c.args.number below)) c.is_false_too.ensures.within
+    subst (λ variables. IsWithin c.is_valued_too.new.self.tried (c.args.self.now.tried ++ variables)) (sym (one-inside c.args.self.now.problem c.args.number below)) c.is_valued_too.ensures.within

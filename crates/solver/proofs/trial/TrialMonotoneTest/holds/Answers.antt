@@ -35,7 +35,7 @@ loop-number-preserved c =
     tried-push-set c.args.set.now c.loop-number.number-index c.loop-number-test.true c.args.self.now c.try_number.new.self
     (tried-next c.args.self.now c.loop-number.self c.try_number.new.self (take c.loop-number.number-index c.args.set.now) (get_or c.args.set.now c.loop-number.number-index 0) c.loop-number.invariant
     c.try_number.ensures.same c.try_number.ensures.within c.try_number.ensures.more
-    (c.try_number.ensures.negative c.if-not-try_number.false)
+    (c.try_number.ensures.valued c.if-not-try_number.false)
     (c.try_number.ensures.no_clash c.if-not-try_number.false))
 
 pub returns-clause-answer : goal.returns-clause-answer
