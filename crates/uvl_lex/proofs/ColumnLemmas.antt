@@ -1,5 +1,5 @@
 -- Runs of characters that take one byte and one column each.
-use Rattle.std.proofs.Common.{◌≡◌, ℕ, ◌+◌, ◌<◌, ◌≤◌, ◌==◌, nat_le, nat_lt, Bool, true, false, ◌&&◌, List, [], ◌∷◌, ◌++◌, length, take, drop, refl, sym, ◌∙◌, ap, subst, inl, inr, arith}
+use Rattle.std.proofs.Common.{◌≡◌, ℕ, ◌+◌, ◌<◌, ◌≤◌, ◌==◌, nat_le, nat_lt, true, false, ◌&&◌, List, [], ◌∷◌, ◌++◌, length, take, drop, refl, sym, ◌∙◌, ap, subst, inl, inr, arith}
 use Rattle.std.specs.Char.{encode_utf8, len_utf8}
 use Rattle.std.specs.List.{prefix_len}
 use Rattle.std.specs.Str.{chars, IsUtf8}
@@ -12,7 +12,7 @@ use Rattle.uvl_lex.specs.declared.class.Class.{Class}
 use Rattle.uvl_lex.specs.declared.cursor.Cursor.{Cursor}
 use Rattle.uvl_lex.specs.declared.place.Place.{Place}
 use Rattle.uvl_lex.specs.inside.Classes.{in_class, is_column}
-use Rattle.uvl_lex.specs.inside.Cursors.{left, GoesOn}
+use Rattle.uvl_lex.specs.inside.Cursors.{GoesOn}
 use Rattle.uvl_lex.specs.Places.{after, along, tab, line_feed, carriage_return}
 use Rattle.uvl_lex.proofs.ScanLemmas.{front_some, after_front}
 

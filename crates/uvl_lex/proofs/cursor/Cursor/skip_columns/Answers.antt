@@ -1,4 +1,4 @@
-use Rattle.std.proofs.Common.{◌≡◌, ◌≤◌, ◌∙◌, refl, ap, length, arith}
+use Rattle.std.proofs.Common.{◌≤◌, ◌∙◌, refl, ap, length, arith}
 use Rattle.std.specs.List.{prefix_len}
 use Rattle.std.proofs.lemmas.Str.{IsUtf8-from_is_utf8, is_utf8-from_IsUtf8, IsCharBoundary-from_drop}
 use Rattle.uvl_lex.specs.inside.Classes.{is_column}
