@@ -1,5 +1,5 @@
 -- Heights of chains, and what is read of a chain that grows at its end.
-use Rattle.std.proofs.Common.{◌≡◌, ◌∙◌, refl, ap, sym, subst, append_assoc, ℕ, ◌<◌, ◌≤◌, max, List, [], ◌∷◌, ◌++◌, All, map, Ok, Err, true, false, nat_le, arith}
+use Rattle.std.proofs.Common.{◌≡◌, ◌∙◌, refl, ap, sym, subst, ℕ, ◌<◌, ◌≤◌, max, List, [], ◌∷◌, ◌++◌, All, Ok, Err, true, false, nat_le, arith}
 use Rattle.std.proofs.lemmas.Bool.Decides.{nat_tests}
 use Rattle.feature_tree.specs.declared.reader.error.FormulaError.TheVariants.{TooDeep}
 use Rattle.std.proofs.lemmas.List.Elements.{All-nil, All-cons, All-head, All-tail}
@@ -87,18 +87,3 @@ module _ (pair : Formula → Formula → Formula) where
 
 pub All-rest : {X : Type 0} (P : X → Type 0) (rest : List X) (next : X) (others : List X) → rest ≡ next ∷ others → All P rest → All P others
 All-rest P rest next others split all = All-tail P next others (subst (All P) split all)
-
-pub All-next : {X : Type 0} (P : X → Type 0) (rest : List X) (next : X) (others : List X) → rest ≡ next ∷ others → All P rest → P next
-All-next P rest next others split all = All-head P next others (subst (All P) split all)
-
-pub node_step-parts : (goal parts : List Formula) (rest : List Parsed) (next : Parsed) (others : List Parsed) (longer : List Formula)
-    → parts ++ map (λ part. part.formula) rest ≡ goal → rest ≡ next ∷ others → longer ≡ parts ++ next.formula ∷ [] → longer ++ map (λ part. part.formula) others ≡ goal
-node_step-parts goal parts rest next others longer is split step =
-    ap (λ l. l ++ map (λ part. part.formula) others) step
-    ∙ append_assoc parts (next.formula ∷ []) (map (λ part. part.formula) others)
-    ∙ sym (ap (λ all. parts ++ map (λ part. part.formula) all) split) ∙ is
-
-pub node_step-height : (goal height : ℕ) (rest : List Parsed) (next : Parsed) (others : List Parsed) (higher : ℕ)
-    → max height (highest rest) ≡ goal → rest ≡ next ∷ others → higher ≡ max height next.height → max higher (highest others) ≡ goal
-node_step-height goal height rest next others higher is split step =
-    let all : highest rest ≡ max next.height (highest others) = ap highest split in omega arith

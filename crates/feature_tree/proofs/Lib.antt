@@ -6,6 +6,7 @@ pub mod FormulaAnswerLaws
 pub mod FormulaLaws
 pub mod Formulas
 pub mod Heights
+pub mod NodeSteps
 pub mod NumberedLaws
 pub mod Products
 pub mod ReadFormulaLaws

@@ -1,3 +1,4 @@
+pub mod ColumnLemmas
 pub mod CoverLemmas
 pub mod CursorLemmas
 pub mod LineLemmas

@@ -1,5 +1,5 @@
 -- How a reader goes on over a piece.
-use Rattle.std.proofs.Common.{◌≡◌, ◌⊎◌, inl, inr, List, [], ◌∷◌, ◌++◌, Option, Some, None, Ok, Err, refl, sym, ap, append_assoc, append-nil}
+use Rattle.std.proofs.Common.{◌≡◌, ◌⊎◌, inl, inr, List, [], ◌∷◌, Option, Some, None, Ok, Err, refl, sym, ap, append_assoc, append-nil}
 use Rattle.uvl_lex.specs.declared.bracket.Bracket.{Bracket}
 use Rattle.uvl_lex.specs.declared.error.LexError.TheVariants.{Refused}
 use Rattle.uvl_lex.specs.declared.error.LexReason.{LexReason}

@@ -104,10 +104,10 @@ abbrev pub more_len : List ℕ → ℕ
 more_len ys = prefix_len (is_inside quote) (drop (plain_len ys) ys)
 
 -- the front that passes a test, one character at a time
-front_some : (p : ℕ → Bool) (c : ℕ) (cs : List ℕ) → p c ≡ true → take (prefix_len p (c ∷ cs)) (c ∷ cs) ≡ c ∷ take (prefix_len p cs) cs
+pub front_some : (p : ℕ → Bool) (c : ℕ) (cs : List ℕ) → p c ≡ true → take (prefix_len p (c ∷ cs)) (c ∷ cs) ≡ c ∷ take (prefix_len p cs) cs
 front_some p c cs h = let e : prefix_len p (c ∷ cs) ≡ suc (prefix_len p cs) = rw h (omega arith) in rw e refl
 
-after_front : (p : ℕ → Bool) (c : ℕ) (cs : List ℕ) → p c ≡ true → drop (prefix_len p (c ∷ cs)) (c ∷ cs) ≡ drop (prefix_len p cs) cs
+pub after_front : (p : ℕ → Bool) (c : ℕ) (cs : List ℕ) → p c ≡ true → drop (prefix_len p (c ∷ cs)) (c ∷ cs) ≡ drop (prefix_len p cs) cs
 after_front p c cs h = let e : prefix_len p (c ∷ cs) ≡ suc (prefix_len p cs) = rw h (omega arith) in rw e refl
 
 -- what a plain character is, and what another one between the quotes is

@@ -1,8 +1,9 @@
 //! Classes of characters.
-ghost use Rattle.std.specs.Prelude.{◌≡◌, ◌||◌, ◌==◌};
+ghost use Rattle.std.specs.Prelude.{◌≡◌, ◌≤◌, ◌||◌, ◌==◌, length};
 ghost use Rattle.std.specs.Char.{is_ascii_alphanumeric};
+ghost use Rattle.std.specs.List.{prefix_len};
 ghost use Rattle.unicode_ident.specs.Ident.{is_xid_start, is_xid_continue};
-ghost use Rattle.uvl_lex.specs.inside.Classes.{in_class};
+ghost use Rattle.uvl_lex.specs.inside.Classes.{in_class, is_column};
 ghost use Rattle.uvl_lex.specs.Pieces.{starts_name, is_in_name};
 
 /// A class of characters.
@@ -33,6 +34,27 @@ impl Class {
             Class::Inside(mark) => c != mark && c != '\n' && c != '\r',
             Class::Plain => c != '"' && c != '.' && c != '\n' && c != '\r',
         }
+    }
+
+    /// Whether the byte is a character of the class that takes one byte and one column.
+    #[inline]
+    fn is_column(self, byte: u8) -> bool
+        ensures { result ≡ is_column self byte }
+    {
+        32 <= byte && byte < 127 && self.contains(byte as char)
+    }
+
+    /// How many such bytes come first.
+    #[inline]
+    pub fn columns(self, bytes: &[u8]) -> usize
+        ensures value { result ≡ prefix_len (is_column self) bytes.now }
+        ensures within { result ≤ length bytes.now }
+    {
+        let mut count = 0;
+        while count < bytes.len() && self.is_column(bytes[count]) {
+            count += 1;
+        }
+        count
     }
 }
 

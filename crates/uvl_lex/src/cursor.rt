@@ -15,7 +15,7 @@ pub(crate) struct Cursor<'a> {
 }
 
 impl<'a> Cursor<'a> {
-    ghost use Rattle.std.specs.Prelude.{◌≡◌, ◌≤◌, ◌-◌, length, take, MatchOption, IsTrue, ◌↔◌, [], ◌∷◌};
+    ghost use Rattle.std.specs.Prelude.{◌≡◌, ◌≤◌, ◌+◌, ◌-◌, length, take, MatchOption, IsTrue, ◌↔◌, [], ◌∷◌};
     ghost use Rattle.std.specs.List.{prefix_len};
     ghost use Rattle.std.specs.Str.{chars};
     ghost use Rattle.uvl_lex.specs.Places.{after, beginning, unmarked};
@@ -118,15 +118,36 @@ impl<'a> Cursor<'a> {
         ensures count { result.0 ≡ prefix_len (in_class class) (left self.entry) }
         ensures after { GoesOn self.entry (prefix_len (in_class class) (left self.entry)) result.1 }
     {
-        let mut count = 0;
-        let mut at = self;
+        let (mut count, mut at) = self.skip_columns(class);
         while let Some((c, after)) = at.step() {
             if !class.contains(c) {
                 break;
             }
-            count += 1;
-            at = after;
+            let (more, next) = after.skip_columns(class);
+            count += 1 + more;
+            at = next;
         }
         (count, at)
+    }
+
+    /// After the characters of the class that come first and take one byte and one column each, and how many these are.
+    #[inline]
+    fn skip_columns(self, class: Class) -> (usize, Cursor<'a>)
+        ensures after { GoesOn self.entry result.0 result.1 }
+        ensures passed { result.0 + prefix_len (in_class class) (left result.1) ≡ prefix_len (in_class class) (left self.entry) }
+    {
+        let count = class.columns(self.rest.as_bytes());
+        let Place {
+            offset,
+            line,
+            column,
+        } = self.place;
+        let place = Place {
+            offset: offset + count as u32,
+            line,
+            column: column + count as u32,
+        };
+        let rest = &self.rest[count..];
+        (count, Cursor { rest, place })
     }
 }

@@ -21,7 +21,7 @@ pub(crate) struct Beginning {
 pub(crate) struct Reader {
     lines: Lines,
     begun: Option<Beginning>,
-    /// The tokens of the line that has begun. One buffer serves every line, which gets a copy of its own size.
+    /// The tokens of the line that has begun. One buffer serves every short line.
     gathered: Vec<Token>,
     open_brackets: Brackets,
 }
@@ -91,7 +91,7 @@ impl Reader {
         ensures brackets { OnOk result (self.new.open_brackets ≡ self.old.open_brackets) }
     {
         if let Some(Beginning { number, indent }) = self.begun.take() {
-            let tokens = Tokens::from_slice(alloc, self.gathered.as_slice())?;
+            let tokens = Tokens::gathered(alloc, &mut self.gathered)?;
             self.lines.push(Line {
                 number,
                 indent,

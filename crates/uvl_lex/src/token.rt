@@ -4,6 +4,10 @@ ghost use Rattle.uvl_lex.specs.Text.{IsSpanOf, token_text};
 
 use std::alloc::{AllocError, Global};
 use std::marker::Model;
+use std::mem;
+
+/// How many tokens of a line are copied at most.
+const MOST_COPIED: usize = 1024;
 
 /// A word that the format reserves.
 #[derive(Clone, Copy, Debug, PartialEq, Eq)]
@@ -139,11 +143,17 @@ impl Tokens {
         Ok(())
     }
 
-    /// A copy of the tokens, with room for no more.
-    pub(crate) fn from_slice(alloc: Global, items: &[Token]) -> Result<Self, AllocError>
-        ensures { IfOk result (λ tokens. tokens ≡ items.now) }
+    /// The tokens of a buffer, with room for no more. A short list is copied, so that the buffer serves again. A long one
+    /// is handed over, since a copy would take its memory twice.
+    pub(crate) fn gathered(alloc: Global, buffer: &mut Vec<Token>) -> Result<Self, AllocError>
+        ensures { IfOk result (λ tokens. tokens ≡ buffer.old.items) }
     {
-        let items = Vec::from_slice(alloc, items)?;
+        if buffer.len() <= MOST_COPIED {
+            let items = Vec::from_slice(alloc, buffer.as_slice())?;
+            return Ok(Tokens { items });
+        }
+        let mut items = mem::replace(buffer, Vec::new(alloc));
+        items.shrink_to_fit();
         Ok(Tokens { items })
     }
 }

@@ -1,6 +1,6 @@
 -- What the private steps of the reader answer. These definitions follow its code, and only the clauses of those steps
 -- cite them; the grammar knows nothing of them. In `proofs/` they are shown to agree with it.
-use Rattle.std.specs.Prelude.{◌≡◌, ℕ, zero, suc, ◌+◌, ◌<◌, ◌≤◌, Bool, false, if◌then◌else◌, nat_le, List, [], ◌∷◌, length, slice_get, Option, Some, None, Result, Ok, Err}
+use Rattle.std.specs.Prelude.{◌≡◌, ℕ, zero, suc, ◌+◌, ◌<◌, ◌≤◌, Bool, true, false, if◌then◌else◌, nat_le, List, [], ◌∷◌, length, slice_get, Option, Some, None, Result, Ok, Err}
 use Rattle.feature_tree.specs.declared.formula.Formula.{Formula}
 use Rattle.feature_tree.specs.declared.formula.Formula.TheVariants as formula
 use Rattle.feature_tree.specs.declared.reader.descent.Found.{Found}
@@ -46,6 +46,12 @@ node_of Implies = formula.All
 node_of Any = formula.Any
 node_of All = formula.All
 
+abbrev pub is_one_node : Level → Bool
+is_one_node Same = false
+is_one_node Implies = false
+is_one_node Any = true
+is_one_node All = true
+
 abbrev pub IsLow : ℕ → Parsed → Type 0
 IsLow room parsed = parsed.height ≤ room
 
@@ -58,6 +64,10 @@ joined_within room level first others = within room (joined level first others)
 
 abbrev pub joined_from_the_left : ℕ → Level → Parsed → List Parsed → OrRefusal Parsed
 joined_from_the_left room level first others = within room (from_the_left (pair_of level) first others)
+
+-- the node over these parts, of which the highest has this height
+abbrev pub node_within : ℕ → Level → List Formula → ℕ → OrRefusal Parsed
+node_within room level parts highest = within room (record { formula = node_of level parts; height = highest + 1 })
 
 -- ---- descending
 

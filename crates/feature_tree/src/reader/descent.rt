@@ -1,12 +1,13 @@
 //! Reads tokens that are known to be a formula. It descends only where the height grows, by `!` and `(`; a chain is a loop.
-ghost use Rattle.std.specs.Prelude.{◌≡◌, ◌^◌, ◌+◌, ◌<◌, ◌≤◌, length, slice_get, IfSome, IfOk, IsTrue};
+ghost use Rattle.std.specs.Prelude.{◌≡◌, ◌^◌, ◌+◌, ◌<◌, ◌≤◌, length, slice_get, IfSome, IfOk, IsTrue, IsFalse};
 ghost use Rattle.feature_tree.specs.Roles.{roles_of};
 ghost use Rattle.feature_tree.specs.Grammar.{chain, unary, member_of};
-ghost use Rattle.feature_tree.specs.inside.Descent.{Answers, read, joins_at, closed, IsPast};
+ghost use Rattle.feature_tree.specs.inside.Descent.{Answers, read, joins_at, closed, is_one_node, IsPast};
 
 use crate::reader::error::FormulaError;
-use crate::reader::parsed::{Parsed, joined};
+use crate::reader::parsed::{Parsed, from_the_left, one_node};
 use crate::reader::role::{Level, Role};
+use lists::Row;
 use std::alloc::Global;
 use uvl_lex::Token;
 
@@ -121,6 +122,28 @@ pub(crate) fn read_chain(
     ensures answers { Answers result (read (roles_of tokens.now) (chain level) room at) }
     ensures past { IfOk result (IsPast room at (length tokens.now)) }
 {
+    if level.is_one_node() {
+        read_node(alloc, tokens, at, level, room)
+    } else {
+        read_pairs(alloc, tokens, at, level, room)
+    }
+}
+
+/// Reads a chain that groups from the left.
+#[cycle(descent)]
+fn read_pairs(
+    alloc: Global,
+    tokens: &[Token],
+    at: usize,
+    level: Level,
+    room: u32,
+) -> Result<Found, FormulaError>
+    requires few { length tokens.now < 2 ^ 32 }
+    requires narrow { room + 1 < 2 ^ 32 }
+    requires pairs { IsFalse (is_one_node level) }
+    ensures answers { Answers result (read (roles_of tokens.now) (chain level) room at) }
+    ensures past { IfOk result (IsPast room at (length tokens.now)) }
+{
     let Found {
         parsed: first,
         mut after,
@@ -131,6 +154,51 @@ pub(crate) fn read_chain(
         others.push(parsed)?;
         after = end;
     }
-    let parsed = joined(alloc, level, first, others, room)?;
+    let parsed = from_the_left(alloc, level, first, others, room)?;
+    Ok(Found { parsed, after })
+}
+
+/// Reads a chain that is one node. Of its members it keeps the formulas and the greatest height.
+#[cycle(descent)]
+fn read_node(
+    alloc: Global,
+    tokens: &[Token],
+    at: usize,
+    level: Level,
+    room: u32,
+) -> Result<Found, FormulaError>
+    requires few { length tokens.now < 2 ^ 32 }
+    requires narrow { room + 1 < 2 ^ 32 }
+    requires node { IsTrue (is_one_node level) }
+    ensures answers { Answers result (read (roles_of tokens.now) (chain level) room at) }
+    ensures past { IfOk result (IsPast room at (length tokens.now)) }
+{
+    let Found {
+        parsed: first,
+        mut after,
+    } = read_member(alloc, tokens, at, level, room)?;
+    if !joins_at(tokens, after, level) {
+        return Ok(Found {
+            parsed: first,
+            after,
+        });
+    }
+    let Parsed {
+        formula,
+        mut height,
+    } = first;
+    let mut parts = Row::new(alloc);
+    parts.push(formula)?;
+    'members: while joins_at(tokens, after, level) {
+        let Found { parsed, after: end } = read_member(alloc, tokens, after + 1, level, room)?;
+        let Parsed {
+            formula,
+            height: next,
+        } = parsed;
+        parts.push(formula)?;
+        height = height.max(next);
+        after = end;
+    }
+    let parsed = one_node(level, parts, height, room)?;
     Ok(Found { parsed, after })
 }

@@ -1,12 +1,11 @@
 //! What has been read of a formula, and how parts are joined.
 ghost use Rattle.std.specs.Prelude.{◌≡◌, ◌^◌, ◌+◌, ◌<◌, ◌≤◌, IfOk, All};
-ghost use Rattle.feature_tree.specs.Grammar.{named, negated, enclosed, paired, in_one_node};
-ghost use Rattle.feature_tree.specs.inside.Descent.{Answers, pair_of, node_of, joined_within, joined_from_the_left, IsLow};
+ghost use Rattle.feature_tree.specs.Grammar.{named, negated, enclosed, paired};
+ghost use Rattle.feature_tree.specs.inside.Descent.{Answers, pair_of, node_within, joined_from_the_left, IsLow};
 
 use crate::formula::{Formula, Formulas};
 use crate::reader::error::FormulaError;
 use crate::reader::role::Level;
-use lists::Row;
 use sqlite_items::Boxed;
 use std::alloc::{AllocError, Global};
 
@@ -64,32 +63,8 @@ impl Parsed {
     }
 }
 
-/// What is read of a chain with these members, none higher than `room`, unless the whole is.
-pub(crate) fn joined(
-    alloc: Global,
-    level: Level,
-    first: Parsed,
-    others: Vec<Parsed>,
-    room: u32,
-) -> Result<Parsed, FormulaError>
-    requires narrow { room + 1 < 2 ^ 32 }
-    requires first_is_low { IsLow room first }
-    requires others_are_low { All (IsLow room) others.items }
-    ensures answers { Answers result (joined_within room level first others.items) }
-    ensures low { IfOk result (IsLow room) }
-{
-    let whole = match level {
-        Level::Same | Level::Implies => from_the_left(alloc, level, first, others, room)?,
-        Level::Any | Level::All => in_one_node(alloc, level, first, others)?,
-    };
-    if whole.height > room {
-        return Err(FormulaError::TooDeep);
-    }
-    Ok(whole)
-}
-
 /// What is read of a chain that groups from the left. It ends as soon as the pairs are too high, so that none is ever much higher.
-fn from_the_left(
+pub(crate) fn from_the_left(
     alloc: Global,
     level: Level,
     first: Parsed,
@@ -99,7 +74,8 @@ fn from_the_left(
     requires narrow { room + 1 < 2 ^ 32 }
     requires first_is_low { IsLow room first }
     requires others_are_low { All (IsLow room) others.items }
-    ensures { Answers result (joined_from_the_left room level first others.items) }
+    ensures answers { Answers result (joined_from_the_left room level first others.items) }
+    ensures low { IfOk result (IsLow room) }
 {
     let mut whole = first;
     for next in others {
@@ -129,30 +105,19 @@ fn paired(alloc: Global, level: Level, left: Parsed, right: Parsed) -> Result<Pa
     Ok(Parsed { formula, height })
 }
 
-/// What is read of a chain that is one node.
-fn in_one_node(
-    alloc: Global,
+/// One node over these parts, of which the highest has this height.
+pub(crate) fn one_node(
     level: Level,
-    first: Parsed,
-    others: Vec<Parsed>,
-) -> Result<Parsed, AllocError>
-    requires first_is_low { first.height + 1 < 2 ^ 32 }
-    requires others_are_low { All (λ part. part.height + 1 < 2 ^ 32) others.items }
-    ensures { IfOk result (λ whole. whole ≡ in_one_node (node_of level) first others.items) }
+    parts: Formulas,
+    highest: u32,
+    room: u32,
+) -> Result<Parsed, FormulaError>
+    requires { highest + 1 < 2 ^ 32 }
+    ensures answers { Answers result (node_within room level parts highest) }
+    ensures low { IfOk result (IsLow room) }
 {
-    if others.is_empty() {
-        return Ok(first);
-    }
-    let Parsed {
-        formula,
-        mut height,
-    } = first;
-    let mut parts: Formulas = Row::new(alloc);
-    parts.push(formula)?;
-    for next in others {
-        height = height.max(next.height);
-        let Parsed { formula, .. } = next;
-        parts.push(formula)?;
+    if highest >= room {
+        return Err(FormulaError::TooDeep);
     }
     let formula = match level {
         Level::Any => Formula::Any(parts),
@@ -160,6 +125,6 @@ fn in_one_node(
     };
     Ok(Parsed {
         formula,
-        height: height + 1,
+        height: highest + 1,
     })
 }

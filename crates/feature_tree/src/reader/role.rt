@@ -1,6 +1,7 @@
 //! What a token is to a formula.
 ghost use Rattle.std.specs.Prelude.{◌≡◌};
 ghost use Rattle.feature_tree.specs.Roles.{role_of, role_of_mark, joins};
+ghost use Rattle.feature_tree.specs.inside.Descent.{is_one_node};
 
 use uvl_lex::{Keyword, Mark, TokenKind};
 
@@ -15,6 +16,15 @@ pub enum Level {
     Any,
     /// `&`
     All,
+}
+
+impl Level {
+    /// Whether a chain of this level is one node, and not pairs from the left.
+    pub(crate) fn is_one_node(self) -> bool
+        ensures { result ≡ is_one_node self }
+    {
+        matches!(self, Level::Any | Level::All)
+    }
 }
 
 /// The role that a token has in a formula. It is public because the grammar names it.

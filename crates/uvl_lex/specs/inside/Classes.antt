@@ -1,6 +1,6 @@
 -- What private functions answer on characters: classes, the reserved words by their length, and the marks by their first
 -- characters. The proofs join these to the tables of `Words` and to `Pieces`.
-use Rattle.std.specs.Prelude.{◌≡◌, ℕ, ◌<◌, ◌==◌, Bool, false, not, ◌&&◌, if◌then◌else◌, List, length, filter, Option, Some, None}
+use Rattle.std.specs.Prelude.{◌≡◌, ℕ, ◌<◌, ◌==◌, nat_le, nat_lt, Bool, false, not, ◌&&◌, if◌then◌else◌, List, length, filter, Option, Some, None}
 use Rattle.std.specs.Char.{is_ascii_digit}
 use Rattle.std.specs.Option.{option_map}
 use Rattle.uvl_lex.specs.declared.class.Class.{Class}
@@ -22,6 +22,10 @@ in_class InName c = is_in_name c
 in_class Digit c = is_ascii_digit c
 in_class (Inside mark) c = is_inside mark c
 in_class Plain c = is_plain c
+
+-- an ASCII character of the class that is neither a tab nor an end of a line: it takes one byte and one column
+abbrev pub is_column : Class → ℕ → Bool
+is_column class c = (nat_le 32 c && nat_lt c 127) && in_class class c
 
 abbrev pub has_len : ℕ → Word → Bool
 has_len len word = length (spelling word) == len

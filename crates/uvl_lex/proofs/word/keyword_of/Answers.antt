@@ -1,6 +1,5 @@
-use Rattle.std.proofs.Common.{◌≡◌, ℕ, List, length, false, refl, ap, sym, ◌∙◌, subst}
+use Rattle.std.proofs.Common.{◌≡◌, ℕ, List, false, ap, sym, ◌∙◌, subst}
 use Rattle.std.specs.Str.{bytes_eq}
-use Rattle.uvl_lex.specs.declared.token.Keyword.{Keyword}
 use Rattle.uvl_lex.specs.inside.Classes.{words_of_len}
 use Rattle.uvl_lex.specs.Words.{keyword_of, keywords, spelled}
 use Rattle.uvl_lex.proofs.WordLemmas.{spelled_past, spelled_of_len}

@@ -1,17 +1,72 @@
-use Rattle.std.proofs.Common.{◌≡◌, ◌∙◌, ◌<◌, ◌-◌, sym, ap, subst, arith, length, [], Ok, Err, ◌+◌, rules}
+use Rattle.std.proofs.Common.{◌≡◌, ◌∙◌, ◌<◌, ◌-◌, sym, ap, subst, arith, length, [], ◌∷◌, ◌++◌, Ok, Err, ◌+◌, rules}
 use Rattle.feature_tree.specs.Roles.{roles_of}
 use Rattle.feature_tree.specs.Grammar.{unary}
 use Rattle.feature_tree.specs.inside.Descent.{Answers, read}
 use Rattle.feature_tree.proofs.DescentSteps.{length-roles, exit_answers, chain-first-err, go_on-start, go_on-step, go_on-step-err, finish-err, finish-ok, none_low, low-push, read-unary-zero, read-unary-name, read-unary-other, not-err, not-ok, opens-err, opens-ok, pushed}
+use Rattle.feature_tree.specs.declared.reader.parsed.Parsed.{Parsed}
+use Rattle.feature_tree.proofs.NodeSteps.{pairs_within, alone, gathered-start, gathered-next, gathered-err, gathered-end-err, gathered-end}
 use Rattle.feature_tree.proofs.reader.descent.+descent.Goals as goal
 
-pub read_chain-returns-in_err-first-clause-answers : goal.read_chain-returns-in_err-first-clause-answers
-read_chain-returns-in_err-first-clause-answers t c =
+pub read_node-returns-in_err-first-clause-answers : goal.read_node-returns-in_err-first-clause-answers
+read_node-returns-in_err-first-clause-answers t c =
     exit_answers c.from_residual.result c.in_err-first.field-0.0 _ c.from_residual.ensures.1
     (chain-first-err (roles_of c.args.tokens.now) c.args.level c.args.room c.args.at c.in_err-first.field-0.0 c.in_err-first.ensures.answers)
 
-pub read_chain-members-init : goal.read_chain-members-init
-read_chain-members-init t c =
+pub read_node-returns-then-not-joins_at-clause-answers : goal.read_node-returns-then-not-joins_at-clause-answers
+read_node-returns-then-not-joins_at-clause-answers t c =
+    alone (roles_of c.args.tokens.now) c.args.level c.args.room c.args.at c.in_ok-first.field-0 c.in_ok-first.ensures.answers
+    (sym c.joins_at.ensures.value ∙ c.if-not-joins_at.true) c.in_ok-first.ensures.past.low
+
+pub read_node-members-init : goal.read_node-members-init
+read_node-members-init t c =
+    let past = c.in_ok-first.ensures.past in
+    record {
+      past = omega arith;
+      inside = omega arith;
+      low = omega arith;
+      gathered = gathered-start (roles_of c.args.tokens.now) c.args.level c.args.room c.args.at c.in_ok-first.field-0 c.push.new.self c.in_ok-first.ensures.answers
+          (sym c.joins_at.ensures.value ∙ c.if-not-joins_at.false) (omega arith)
+          (c.in_ok-push.ensures.ok ∙ ap (λ none. none ++ c.in_ok-first.field-0.parsed.formula ∷ []) c.new-parts.ensures);
+    }
+
+pub read_node-returns-in_err-parsed-clause-answers : goal.read_node-returns-in_err-parsed-clause-answers
+read_node-returns-in_err-parsed-clause-answers t c =
+    let size = length-roles c.args.tokens.now in
+    exit_answers c.from_residual-in_err-parsed.result c.in_err-parsed.field-0.0 _ c.from_residual-in_err-parsed.ensures.1
+    (gathered-err (roles_of c.args.tokens.now) c.args.level c.args.room c.args.at c.members.parts c.members.height c.members.after c.members.invariant.gathered
+    c.in_err-parsed.field-0.0 (omega arith) (sym c.joins_at-in-members.ensures.value ∙ c.members-test.true) c.in_err-parsed.ensures.answers)
+
+pub read_node-members-preserved : goal.read_node-members-preserved
+read_node-members-preserved t c =
+    let size = length-roles c.args.tokens.now in
+    let past = c.in_ok-parsed.ensures.past in
+    record {
+      past = omega arith;
+      inside = omega arith;
+      low = omega arith;
+      gathered = gathered-next (roles_of c.args.tokens.now) c.args.level c.args.room c.args.at c.members.parts c.members.height c.members.after c.members.invariant.gathered
+          c.in_ok-parsed.field-0 c.push-in-members.new.self c.max-height.result (omega arith) (sym c.joins_at-in-members.ensures.value ∙ c.members-test.true)
+          c.in_ok-parsed.ensures.answers past.some c.in_ok-push-2.ensures.ok c.max-height.ensures;
+    }
+
+pub read_node-returns-in_err-parsed-2-clause-answers : goal.read_node-returns-in_err-parsed-2-clause-answers
+read_node-returns-in_err-parsed-2-clause-answers t c =
+    exit_answers c.from_residual-in_err-parsed-2.result c.in_err-parsed-2.field-0.0 _ c.from_residual-in_err-parsed-2.ensures.1
+    (gathered-end-err (roles_of c.args.tokens.now) c.args.level c.args.room c.args.at c.members.parts c.members.height c.members.after c.members.invariant.gathered
+    c.in_err-parsed-2.field-0.0 (sym c.joins_at-in-members.ensures.value ∙ c.members-test.false) c.requires.node c.in_err-parsed-2.ensures.answers)
+
+pub read_node-returns-clause-answers : goal.read_node-returns-clause-answers
+read_node-returns-clause-answers t c =
+    gathered-end (roles_of c.args.tokens.now) c.args.level c.args.room c.args.at c.members.parts c.members.height c.members.after c.members.invariant.gathered
+    c.in_ok-parsed-2.parsed (sym c.joins_at-in-members.ensures.value ∙ c.members-test.false) c.requires.node c.in_ok-parsed-2.ensures.answers
+
+pub read_pairs-returns-in_err-first-clause-answers : goal.read_pairs-returns-in_err-first-clause-answers
+read_pairs-returns-in_err-first-clause-answers t c =
+    exit_answers c.from_residual.result c.in_err-first.field-0.0 _ c.from_residual.ensures.1
+    (chain-first-err (roles_of c.args.tokens.now) c.args.level c.args.room c.args.at c.in_err-first.field-0.0 c.in_err-first.ensures.answers)
+
+pub read_pairs-members-init : goal.read_pairs-members-init
+read_pairs-members-init t c =
     let none : c.new-others.result.items ≡ [] = c.new-others.ensures.items in
     let size : length c.new-others.result.items ≡ 0 = ap length none in
     record {
@@ -23,8 +78,8 @@ read_chain-members-init t c =
       whole = go_on-start (roles_of c.args.tokens.now) c.args.level c.args.room c.args.at c.in_ok-first.field-0 c.new-others.result.items none c.in_ok-first.ensures.answers;
     }
 
-pub read_chain-returns-in_err-parsed-clause-answers : goal.read_chain-returns-in_err-parsed-clause-answers
-read_chain-returns-in_err-parsed-clause-answers t c =
+pub read_pairs-returns-in_err-parsed-clause-answers : goal.read_pairs-returns-in_err-parsed-clause-answers
+read_pairs-returns-in_err-parsed-clause-answers t c =
     let size = length-roles c.args.tokens.now in
     let below : length c.members.others.items < length (roles_of c.args.tokens.now) = omega arith in
     exit_answers c.from_residual-in_err-parsed.result c.in_err-parsed.field-0.0 _ c.from_residual-in_err-parsed.ensures.1
@@ -32,8 +87,8 @@ read_chain-returns-in_err-parsed-clause-answers t c =
     (go_on-step-err (roles_of c.args.tokens.now) c.args.level c.args.room c.in_ok-first.field-0.parsed (length (roles_of c.args.tokens.now)) c.members.others.items c.members.after
     c.in_err-parsed.field-0.0 below (sym c.joins_at.ensures.value ∙ c.members-test.true) c.in_err-parsed.ensures.answers))
 
-pub read_chain-members-preserved : goal.read_chain-members-preserved
-read_chain-members-preserved t c =
+pub read_pairs-members-preserved : goal.read_pairs-members-preserved
+read_pairs-members-preserved t c =
     let size = length-roles c.args.tokens.now in
     let below : length c.members.others.items < length (roles_of c.args.tokens.now) = omega arith in
     let count : length c.push.new.self.items ≡ length c.members.others.items + 1 = pushed _ _ _ c.in_ok-push.ensures.items in
@@ -48,18 +103,21 @@ read_chain-members-preserved t c =
           ∙ c.members.invariant.whole;
     }
 
-pub read_chain-returns-in_err-parsed-2-clause-answers : goal.read_chain-returns-in_err-parsed-2-clause-answers
-read_chain-returns-in_err-parsed-2-clause-answers t c =
+pub read_pairs-returns-in_err-parsed-2-clause-answers : goal.read_pairs-returns-in_err-parsed-2-clause-answers
+read_pairs-returns-in_err-parsed-2-clause-answers t c =
     exit_answers c.from_residual-in_err-parsed-2.result c.in_err-parsed-2.field-0.0 _ c.from_residual-in_err-parsed-2.ensures.1
     (subst (Answers (Err c.in_err-parsed-2.field-0.0)) c.members.invariant.whole
     (finish-err (roles_of c.args.tokens.now) c.args.room c.args.level c.in_ok-first.field-0.parsed (length (roles_of c.args.tokens.now) - length c.members.others.items) c.members.others.items c.members.after
-    c.in_err-parsed-2.field-0.0 (sym c.joins_at.ensures.value ∙ c.members-test.false) c.in_err-parsed-2.ensures.answers))
+    c.in_err-parsed-2.field-0.0 (sym c.joins_at.ensures.value ∙ c.members-test.false)
+    (subst (λ o. Answers {A = Parsed} (Err c.in_err-parsed-2.field-0.0) o)
+    (sym (pairs_within c.args.room c.args.level c.in_ok-first.field-0.parsed c.members.others.items c.requires.pairs)) c.in_err-parsed-2.ensures.answers)))
 
-pub read_chain-returns-clause-answers : goal.read_chain-returns-clause-answers
-read_chain-returns-clause-answers t c =
+pub read_pairs-returns-clause-answers : goal.read_pairs-returns-clause-answers
+read_pairs-returns-clause-answers t c =
     sym c.members.invariant.whole
     ∙ finish-ok (roles_of c.args.tokens.now) c.args.room c.args.level c.in_ok-first.field-0.parsed (length (roles_of c.args.tokens.now) - length c.members.others.items) c.members.others.items c.members.after
-    c.in_ok-parsed-2.parsed (sym c.joins_at.ensures.value ∙ c.members-test.false) c.in_ok-parsed-2.ensures.answers
+    c.in_ok-parsed-2.parsed (sym c.joins_at.ensures.value ∙ c.members-test.false)
+    (pairs_within c.args.room c.args.level c.in_ok-first.field-0.parsed c.members.others.items c.requires.pairs ∙ c.in_ok-parsed-2.ensures.answers)
 
 pub read_not-returns-then-room-eq0-clause-answers : goal.read_not-returns-then-room-eq0-clause-answers
 read_not-returns-then-room-eq0-clause-answers t c = ap (λ r. read (roles_of c.args.tokens.now) unary r c.args.at) c.if-room-eq0.true ∙ read-unary-zero (roles_of c.args.tokens.now) c.args.at

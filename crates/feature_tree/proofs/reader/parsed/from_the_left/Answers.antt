@@ -3,8 +3,8 @@ use Rattle.feature_tree.specs.inside.Descent.{pair_of, IsLow}
 use Rattle.feature_tree.proofs.Heights.{left_step, left_too_high, All-rest}
 use Rattle.feature_tree.proofs.reader.parsed.from_the_left.Goals as goal
 
-pub returns-then-whole-room : goal.returns-then-whole-room
-returns-then-whole-room c =
+pub returns-then-whole-room-clause-answers : goal.returns-then-whole-room-clause-answers
+returns-then-whole-room-clause-answers c =
     left_too_high (pair_of c.args.level) c.args.room _ c.in_ok-whole.whole c.next.new.self.rest.items
     (left_step (pair_of c.args.level) _ c.loop-next.whole c.loop-next.next-iterator.rest.items c.in-Some.next c.next.new.self.rest.items c.in_ok-whole.whole
     c.loop-next.invariant.whole c.in-Some.ensures.steps.0 c.in_ok-whole.ensures)
