@@ -20,7 +20,7 @@ impl Property for Problem {
     ghost holds = { AreMet };
 }
 
-/// Where requirements can be met together, any of them can.
+/// Where requirements can be met together, any part of them can.
 pub fn fewer_requirements_are_met()
     ensures keys { (problem : ClauseProblem) (a b : PositionSet) → IsWithin a.members b.members → IsMet problem b → IsMet problem a }
     ensures passes { (problem : Problem) → PassesToFewer (⟦<Problem as Property>⟧.holds problem) }

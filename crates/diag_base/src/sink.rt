@@ -3,7 +3,7 @@ ghost use Rattle.std.specs.Prelude.{ℕ, ◌≤◌, List, Option, OnOk, OnErr};
 ghost use Rattle.diag_base.specs.Faults.{Rises};
 ghost use Rattle.diag_base.specs.Sink.{Gains, GainsPart};
 
-/// A sink took only the first bytes of a piece, or none.
+/// A put failed. The sink may have written none of the piece, its first bytes, or all of it.
 #[derive(Clone, Copy, Debug, PartialEq, Eq)]
 pub struct PutFailed;
 

@@ -51,7 +51,7 @@ all_of parts = parts.0 ∷ parts.1
 abbrev pub Parser : Type 0
 Parser = ℕ → List Role → Option Parsed
 
--- each of these lists, with a joint between any two
+-- each of these lists, with a joint between neighbours
 abbrev pub each_by : Parser → ℕ → List (List Role) → Option (List Parsed)
 each_by member from [] = Some []
 each_by member from (tokens ∷ more) =
@@ -65,7 +65,7 @@ whole level (first ∷ others) = Some (joined level first others)
 abbrev pub chain_by : Level → Parser → Parser
 chain_by level member from tokens = option_and_then (whole level) (each_by member from (all_of (cut level 0 tokens)))
 
--- a phrase, where this is known of a `not`
+-- the formula of a phrase, given the answers for `not` phrases
 abbrev pub phrase_by : Parser → Phrase → Parser
 phrase_by not unary = not
 phrase_by not (chain All) = chain_by All not
@@ -83,7 +83,7 @@ before_close [] = None
 before_close (role ∷ []) = if_closes role
 before_close (role ∷ next ∷ after) = option_map (λ tokens. role ∷ tokens) (before_close (next ∷ after))
 
--- a `not`, by its first token, where this is known of a shorter one
+-- the formula of a `not` phrase by its first token, given the answers for shorter ones
 abbrev pub not_by : Parser → Parser
 not_by shorter from (Name ∷ []) = Some (named from)
 not_by shorter from (Not ∷ tokens) = option_map negated (shorter (from + 1) tokens)

@@ -13,7 +13,7 @@ state-of_one = refl
 pub draw-first : drawn 1 0 4 ≡ 1
 draw-first = refl
 
--- features 0 to 4 with one group, and 5 and 17: the last parent has the children that are left
+-- sizes 1, 2, 4, 5 and 17: the last parent has the children that are left
 pub parents-few : (parent_count 1 ≡ 1) × (parent_count 2 ≡ 1) × (parent_count 4 ≡ 1) × (parent_count 5 ≡ 2) × (parent_count 17 ≡ 5)
 parents-few = (refl, refl, refl, refl, refl)
 

@@ -171,18 +171,22 @@ told-push next told [] sat = refl
 told-push next told (first ∷ sats) sat = told-push next (with_answer told first (next told)) sats sat
 
 -- a table's answer on a set is one of its answers
-pub answered-told : (table : List Answer) (set : List ℕ) (sat : Bool) → answer_to table set ≡ Some sat → (before : List Answer) × (answer : Answer) × (after : List Answer) × (table ≡ before ++ answer ∷ after) × (answer.set ≡ set)
+answered-told : (table : List Answer) (set : List ℕ) (sat : Bool) → answer_to table set ≡ Some sat → (before after : List Answer) × (table ≡ before ++ record { set = set; sat = sat } ∷ after)
 answered-told [] set sat e = absurd (cc)
 answered-told (answer ∷ table) set sat e =
     ⊎_elim
-    (λ (same : pointwise eqb answer.set set ≡ true). ([], answer, table, refl, (bytes_eq-Decides answer.set set).0 same))
+    (λ (same : pointwise eqb answer.set set ≡ true).
+    let some : Some answer.sat ≡ Some sat = rw same at e in
+    let told : answer.sat ≡ sat = cc in
+    let first : answer ≡ record { set = set; sat = sat } = rw (← (bytes_eq-Decides answer.set set).0 same, ← told) refl in
+    ([], table, ap (λ (a : Answer). a ∷ table) first))
     (λ (other : pointwise eqb answer.set set ≡ false).
     let r = answered-told table set sat (rw other at e) in
-    (answer ∷ r.0, r.1, r.2, ap (λ (t : List Answer). answer ∷ t) r.3, r.4))
+    (answer ∷ r.0, r.1, ap (λ (t : List Answer). answer ∷ t) r.2))
     (cases_Bool (pointwise eqb answer.set set))
 
--- a set that has an answer was asked
-pub told-asked : (next : List Answer → Next) (told : List Answer) (set : List ℕ) (sat : Bool) → IsToldInTurn next [] told → answer_to told set ≡ Some sat → (before : List Answer) × (next before ≡ Ask set)
+-- a set that has an answer was asked over what was told before that answer
+pub told-asked : (next : List Answer → Next) (told : List Answer) (set : List ℕ) (sat : Bool) → IsToldInTurn next [] told → answer_to told set ≡ Some sat → (before after : List Answer) × (told ≡ before ++ record { set = set; sat = sat } ∷ after) × (next before ≡ Ask set)
 told-asked next told set sat h e =
     let r = answered-told told set sat e in
-    (r.0, h r.0 r.1 r.2 r.3 ∙ ap Ask r.4)
+    (r.0, r.1, r.2, h r.0 record { set = set; sat = sat } r.1 r.2)

@@ -23,7 +23,7 @@ pub record AgreesWith (P : List ℕ → Type 0) (table : List Answer) : Type 0 w
   pub sat : (set : List ℕ) → answer_to table set ≡ Some true → P set
   pub unsat : (set : List ℕ) → answer_to table set ≡ Some false → ¬ P set
 
--- no Unsat set of the table is within a Sat one: the table is closed under subsets
+-- no Unsat set of the table is within a Sat one
 abbrev pub IsClosed : List Answer → Type 0
 IsClosed table = (a b : List ℕ) → answer_to table a ≡ Some false → answer_to table b ≡ Some true → ¬ IsWithin a b
 

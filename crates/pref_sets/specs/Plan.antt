@@ -24,7 +24,7 @@ abbrev pub after_answer : Bool → Plan → Plan
 after_answer sat (found set) = found set
 after_answer sat (asks set go) = go sat
 
--- each set that the plan asks is such, and so is each that it finds
+-- each set that the plan asks has the first property, and each that it finds the second
 abbrev pub AsksOnly : (List ℕ → Type 0) → (List ℕ → Type 0) → Plan → Type 0
 AsksOnly A R (found set) = R set
 AsksOnly A R (asks set go) = A set × ((sat : Bool) → AsksOnly A R (go sat))

@@ -16,7 +16,7 @@ AnswersByPlaces positions background table small =
     (places : List ℕ) → RiseWithin 0 (length positions) places →
     answer_to small places ≡ answer_to table (union background (at_places positions places))
 
--- so far as `small` answers on sets of places
+-- where `small` has an answer on a set of places, the table answers the same on the background and the positions there
 abbrev pub AnswersSomeByPlaces : List ℕ → List ℕ → List Answer → List Answer → Type 0
 AnswersSomeByPlaces positions background table small =
     (places : List ℕ) (sat : Bool) → RiseWithin 0 (length positions) places →

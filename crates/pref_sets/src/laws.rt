@@ -12,6 +12,7 @@ pub trait Property {
     ghost holds: { Self → List ℕ → Type 0 };
 }
 
+/// For this type every set has the property.
 impl Property for Brand {
     ghost holds = { λ _ _. Unit {0} };
 }
@@ -36,8 +37,8 @@ pub fn trimmed_set_of_a_test()
     ensures { (test : List ℕ → Bool) (items : List ℕ) → IsTrimmed (λ set. IsTrue (test set)) items (trimmed_of test items) }
 {}
 
-/// The kept set for a property that passes to fewer members, as 'consistent'. It has the property, and no item can be
-/// added to it: a set with the property that has all of it has no other of the items. No set with the property is
+/// The kept set for a property that passes to fewer members, as 'consistent'. It has the property where the empty set
+/// has it, and no item can be added to it: a set with the property that has all of it has no other of the items. No set with the property is
 /// lexicographically preferred to it, and it alone has that: it is the preferred relaxation (Junker 2004).
 pub fn kept_set_is_maximal<P: Property>()
     ensures holds { (about : P) (items kept : List ℕ) → P.holds about [] →

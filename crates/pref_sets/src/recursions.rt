@@ -52,7 +52,7 @@ pub fn fd_is_kept<P: Property>()
         fd positions table ≡ Done kept → IsStrictlyIncreasing kept }
 {}
 
-/// The same for a table that is closed under subsets and has the positions as Unsat. Its property is to be within a
+/// The same for a table of which no Unsat set is within a Sat one, and that has the positions as Unsat. Its property is to be within a
 /// set that the table has as Sat.
 pub fn fd_of_closed_table()
     ensures { (positions kept : List ℕ) (table : List Answer) → IsStrictlyIncreasing positions →
@@ -91,7 +91,7 @@ pub fn qx_is_trimmed<P: Property>()
         qx positions table ≡ Done left → IsStrictlyIncreasing left }
 {}
 
-/// The same for a table that is closed under subsets and has the empty set as Sat. It is a conflict where the table has
+/// The same for a table of which no Unsat set is within a Sat one, and that has the empty set as Sat. It is a conflict where the table has
 /// the positions as Unsat.
 pub fn qx_of_closed_table()
     ensures trimmed { (positions left : List ℕ) (table : List Answer) → IsStrictlyIncreasing positions →
@@ -118,8 +118,8 @@ pub fn fd_asks_new_sets()
         fd positions table ≡ Ask asked → (¬ asked ≡ []) × (¬ asked ≡ positions) }
 {}
 
-/// The same behind a background, which is asked with some of the positions. Where all positions with it are known to be
-/// Unsat, and it has none of them, it is asked neither with none of the positions nor with all.
+/// The same behind a background, which every asked set has. Where the background has none of the positions, and is known
+/// to be Unsat with all of them, it is asked neither alone nor with all of them.
 pub fn fd_behind_asks_new_sets()
     ensures new { (positions background asked : List ℕ) (known : Bool) (table : List Answer) →
         fd_behind table positions background known ≡ Ask asked → answer_to table asked ≡ None }
@@ -209,7 +209,7 @@ pub fn qx_ends()
 {}
 
 /// FastDiag over another table that answers what this one does, on sets of the positions: it asks the same set, if that
-/// has no answer there either, and finds the same.
+/// has no answer there either, and finds the same. Behind a background the sets are those of positions with it.
 pub fn fd_over_more_answers()
     ensures asks { (positions asked : List ℕ) (table other : List Answer) →
         ((set : List ℕ) (sat : Bool) → IsWithin set positions →
@@ -245,7 +245,8 @@ pub fn qx_over_more_answers()
 
 /// FastDiag of ascending positions behind a background is FastDiag over their places 1, 2, .., m and a table that answers
 /// by places. What the one asks, the other asks of the positions there with the background; what the one keeps is kept.
-/// Where the table has more answers, it asks the same while it has none on that set, and keeps the same.
+/// Where the table has more answers, FastDiag behind the background asks that set if the table has no answer on it, and
+/// keeps the same.
 pub fn fd_goes_by_places()
     ensures same { (positions background : List ℕ) (table small : List Answer) → IsStrictlyIncreasing positions →
         AnswersByPlaces positions background table small →
@@ -302,12 +303,13 @@ pub fn right_answers_agree<P: Property>()
         AgreesWith (P.holds about) (table ++ answer ∷ []) }
 {}
 
-/// Answers are told in turn one by one, and each set that has an answer then was asked.
+/// Answers are told in turn one by one, and each set that has an answer then was asked over what was told before it.
 pub fn answers_in_turn()
     ensures none { (next : List Answer → Next) (start : List Answer) → IsToldInTurn next start [] }
     ensures one_more { (next : List Answer → Next) (start told : List Answer) (answer : Answer) →
         IsToldInTurn next start told → next (start ++ told) ≡ Ask answer.set →
         IsToldInTurn next start (told ++ answer ∷ []) }
     ensures asked { (next : List Answer → Next) (told : List Answer) (set : List ℕ) (sat : Bool) →
-        IsToldInTurn next [] told → answer_to told set ≡ Some sat → (before : List Answer) × (next before ≡ Ask set) }
+        IsToldInTurn next [] told → answer_to told set ≡ Some sat →
+        (before after : List Answer) × (told ≡ before ++ record { set = set; sat = sat } ∷ after) × (next before ≡ Ask set) }
 {}

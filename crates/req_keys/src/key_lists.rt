@@ -1,4 +1,4 @@
-//! Lists of positions and of keys.
+//! Lists of keys.
 use crate::key::Key;
 use lists::Row;
 

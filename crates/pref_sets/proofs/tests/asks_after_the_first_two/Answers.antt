@@ -14,6 +14,6 @@ returns c = λ positions asked told rises turns e.
     c.fd_over_more_answers.ensures.asks positions asked told (record { set = positions; sat = false } ∷ record { set = []; sat = true } ∷ told)
     (λ set sat within known.
     let before = c.answers_in_turn.ensures.asked (fd positions) told set sat turns known in
-    past_two positions set told (c.fd_asks_new_sets.ensures.part positions set before.0 rises before.1) ∙ known)
+    past_two positions set told (c.fd_asks_new_sets.ensures.part positions set before.0 rises before.3) ∙ known)
     e
     (past_two positions asked told (c.fd_asks_new_sets.ensures.part positions asked told rises e) ∙ c.fd_asks_new_sets.ensures.new positions asked told e)
