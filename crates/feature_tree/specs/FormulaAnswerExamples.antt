@@ -12,7 +12,7 @@ use Rattle.feature_tree.specs.declared.reader.error.FormulaError.TheVariants.{Un
 use Rattle.feature_tree.specs.FormulaAnswer.{answer_to, cut, formula_answer, parse, unary_by}
 
 -- `unfolding computing` lets `refl` compute an answer
-unfoldable computing : Unit {0}
+unfoldable pub computing : Unit {0}
 unfolding formula_answer answer_to parse unary_by cut
 computing = tt
 

@@ -17,7 +17,7 @@ use Rattle.uvl_lex.specs.Reading.{OrFault, reading, run_of}
 use Rattle.uvl_lex.specs.Words.{keyword_of}
 
 -- `unfolding computing` lets `refl` compute a reading
-unfoldable computing : Unit {0}
+unfoldable pub computing : Unit {0}
 unfolding reading is_utf8 chars utf8_valid_len encode run_of pieces_after first_piece keyword_of unicode_ident
 computing = tt
 
