@@ -1,3 +1,4 @@
+pub mod Appearing
 pub mod DrawLaws
 pub mod NodeLaws
 pub mod TextLaws

@@ -1,9 +1,11 @@
 -- Worked examples of generated texts, drawn by hand. Each computes.
-use Rattle.std.specs.Prelude.{◌≡◌, [], ◌∷◌, ◌++◌, codes, refl}
+use Rattle.std.specs.Prelude.{◌≡◌, [], ◌∷◌, ◌++◌, Some, None, codes, map, refl}
+use Rattle.feature_tree.specs.declared.formula.Formula.TheVariants.{Name, Implies}
 use Rattle.model_gen.specs.Draws.{next_state, drawn}
 use Rattle.model_gen.specs.Lines.{children, parent_count, constraint_count, wish_count}
 use Rattle.std.specs.Fmt.{digits}
 use Rattle.model_gen.specs.Texts.{line, tree, tabs_of, model_text, config_text}
+use Rattle.model_gen.specs.Whole.{appearing, model_of, number_of}
 
 -- the first draws of seed 1: 1664525 + 1013904223 = 1015568748
 pub state-of_one : next_state 1 ≡ 1015568748
@@ -33,3 +35,21 @@ model-four = refl
 pub config-four : config_text 1 4 ≡ line 0 (codes "F3")
 unfolding tabs_of digits
 config-four = refl
+
+-- a feature's children follow it
+pub appearing-five : appearing 5 ≡ 0 ∷ 1 ∷ 5 ∷ 2 ∷ 3 ∷ 4 ∷ []
+unfolding appearing
+appearing-five = refl
+
+pub numbers-five : (number_of 5 5 ≡ 2) × (number_of 5 2 ≡ 3) × (number_of 5 4 ≡ 5)
+unfolding appearing
+numbers-five = (refl, refl, refl)
+
+-- feature 5 has the number 2, and the constraint is of features 2 and 5
+pub parents-five : map (λ feature. feature.parent) ((model_of 4294967295 5).features) ≡ None ∷ Some 0 ∷ Some 1 ∷ Some 0 ∷ Some 0 ∷ Some 0 ∷ []
+unfolding appearing
+parents-five = refl
+
+pub constraints-five : (model_of 4294967295 5).constraints ≡ Implies (Name 3) (Name 2) ∷ []
+unfolding appearing
+constraints-five = refl
