@@ -1,0 +1,169 @@
+-- The halves that wait.
+use Rattle.std.proofs.Common.{◌≡◌, ℕ, zero, suc, ◌+◌, ◌<◌, ◌≤◌, ◌-◌, ◌/◌, Bool, true, false, not, List, [], ◌∷◌, ◌++◌, length, take, get_or, refl, sym, ◌∙◌, ap, subst, arith, append_assoc}
+use Rattle.std.specs.Prelude.{reverse, Some, slice_get, ◌==◌}
+use Rattle.std.proofs.lemmas.Bool.{ne_eqb}
+use Rattle.std.proofs.lemmas.List.{reverse-append, take_more, take_all}
+use Rattle.std.proofs.lemmas.Option.{get_or_from_slice_get}
+use Rattle.pref_sets.specs.Plan.{chain}
+use Rattle.pref_sets.specs.Positions.{lower_half, upper_half}
+use Rattle.pref_sets.proofs.PlansLeft.{chain-same, chain-chain}
+use Rattle.req_keys.specs.Key.{PositionSet}
+use Rattle.req_keys.specs.Positions.{RiseWithin}
+use Rattle.quick_xplain.specs.inside.Remaining.{part_plan, range_plan, at_range, waiting, with_waiting, end_of, AreStacked, StandsBetween, StandsAt, IsRange}
+use Rattle.quick_xplain.specs.declared.parts.Half.{Half}
+use Rattle.quick_xplain.proofs.PartPlan.{part_plan-halves}
+use Rattle.quick_xplain.proofs.Places.{length-at_range, below-at_range, lower_half-at_range, upper_half-at_range, at_range-one, take-next}
+use Rattle.quick_xplain.proofs.Rising.{RiseWithin-below}
+
+pub reverse-push : (old : List Half) (half : Half) → reverse (old ++ half ∷ []) ≡ half ∷ reverse old
+reverse-push old half = reverse-append old (half ∷ [])
+
+pub AreStacked-more : (most more : ℕ) (halves : List Half) → most ≤ more → AreStacked most halves → AreStacked more halves
+AreStacked-more most more [] l h = tt
+AreStacked-more most more (half ∷ halves) l h = (h.0, h.1, (let few : half.found ≤ most = h.2 in omega arith), h.3)
+
+-- the last of the halves is taken
+pub record IsTaken (among conflict : PositionSet) (most : ℕ) (half : Half) (new : List Half) : Type 0 where
+  pub some : 0 < half.length
+  pub few : half.found ≤ most
+  pub place : StandsBetween half.before (half.before + half.length) among conflict half.found new
+
+pub taken : (among conflict : PositionSet) (most : ℕ) (old new : List Half) (half : Half) → old ≡ new ++ half ∷ [] → StandsAt among conflict most old → IsTaken among conflict most half new
+taken among conflict most old new half e h =
+    let turned : reverse old ≡ half ∷ reverse new = ap reverse e ∙ reverse-push new half in
+    let all : AreStacked most (half ∷ reverse new) = subst (AreStacked most) turned h.stacked in
+    let high : end_of (reverse old) ≡ half.before + half.length = ap end_of turned in
+    let within : end_of (reverse old) ≤ length among.members = h.within in
+    record {
+      some = all.0;
+      few = all.2;
+      place = record {
+        key = h.key;
+        over = h.over;
+        end = all.1;
+        order = omega arith;
+        within = omega arith;
+        above = subst (λ at. RiseWithin 0 among.n (take at among.members ++ conflict.members)) high h.above;
+        stacked = all.3;
+      };
+    }
+
+pub taken-range : (among conflict : PositionSet) (most : ℕ) (half : Half) (new : List Half) → most ≤ length conflict.members → IsTaken among conflict most half new → IsRange among conflict half.before half.length new
+taken-range among conflict most half new l t =
+    let few : half.found ≤ most = t.few in
+    record {
+      some = t.some;
+      place = record {
+        key = t.place.key;
+        over = t.place.over;
+        end = t.place.end;
+        order = t.place.order;
+        within = t.place.within;
+        above = t.place.above;
+        stacked = AreStacked-more half.found (length conflict.members) (reverse new) (omega arith) t.place.stacked;
+      };
+    }
+
+-- it is done next
+pub waiting-last : (members : List ℕ) (conflict : List ℕ) (old new : List Half) (half : Half) → old ≡ new ++ half ∷ [] → waiting members (reverse old) conflict ≡ with_waiting members half.before half.length conflict (not (length conflict == half.found)) new
+waiting-last members conflict old new half e = ap (λ halves. waiting members halves conflict) (ap reverse e ∙ reverse-push new half)
+
+-- something was found since it began to wait
+pub waiting-found : (members : List ℕ) (conflict : List ℕ) (old new : List Half) (half : Half) → old ≡ new ++ half ∷ [] → (¬ length conflict ≡ half.found) → waiting members (reverse old) conflict ≡ with_waiting members half.before half.length conflict true new
+waiting-found members conflict old new half e other =
+    waiting-last members conflict old new half e
+    ∙ ap (λ same. with_waiting members half.before half.length conflict (not same) new) (ne_eqb (length conflict) half.found other)
+
+-- nothing waits
+pub waiting-none : (members : List ℕ) (conflict : List ℕ) (old : List Half) → old ≡ [] → waiting members (reverse old) conflict ≡ waiting members [] conflict
+waiting-none members conflict old e = ap (λ halves. waiting members (reverse halves) conflict) e
+
+-- fewer of the places
+pub stands-lower : (low high lower : ℕ) (among conflict : PositionSet) (most : ℕ) (halves : List Half) → end_of (reverse halves) ≤ lower → lower ≤ high → StandsBetween low high among conflict most halves → StandsBetween lower lower among conflict most halves
+stands-lower low high lower among conflict most halves e l h =
+    let within : high ≤ length among.members = h.within in
+    record {
+      key = h.key;
+      over = h.over;
+      end = e;
+      order = omega arith;
+      within = omega arith;
+      above = RiseWithin-below among.n lower high among.members conflict.members l h.above;
+      stacked = h.stacked;
+    }
+
+pub stands-done : (low high : ℕ) (among conflict : PositionSet) (most : ℕ) (halves : List Half) → StandsBetween low high among conflict most halves → StandsAt among conflict most halves
+stands-done low high among conflict most halves h =
+    let end : end_of (reverse halves) ≤ low = h.end in
+    let order : low ≤ high = h.order in
+    stands-lower low high (end_of (reverse halves)) among conflict most halves (omega arith) (omega arith) h
+
+-- the upper half is begun, and the lower half waits
+pub stands-divided : (among conflict : PositionSet) (before size : ℕ) (old new : List Half) (half : Half) → 2 ≤ size → IsRange among conflict before size old → new ≡ old ++ half ∷ [] → half.before ≡ before → half.length ≡ size / 2 → half.found ≡ length conflict.members →
+    IsRange among conflict (before + size / 2) (size - size / 2) new
+stands-divided among conflict before size old new half l h e b m f =
+    let turned : reverse new ≡ half ∷ reverse old = ap reverse e ∙ reverse-push old half in
+    let low : end_of (reverse new) ≡ half.before + half.length = ap end_of turned in
+    let under : end_of (reverse old) ≤ before = h.place.end in
+    let within : before + size ≤ length among.members = h.place.within in
+    let high : before + size ≡ (before + size / 2) + (size - size / 2) = omega arith in
+    let most : length conflict.members ≤ half.found = omega arith in
+    record {
+      some = omega arith;
+      place = record {
+        key = h.place.key;
+        over = h.place.over;
+        end = omega arith;
+        order = omega arith;
+        within = omega arith;
+        above = subst (λ at. RiseWithin 0 among.n (take at among.members ++ conflict.members)) high h.place.above;
+        stacked =
+            subst (AreStacked (length conflict.members)) (sym turned)
+            (let some : 0 < half.length = omega arith in
+            let above : end_of (reverse old) ≤ half.before = omega arith in
+            let few : half.found ≤ length conflict.members = omega arith in
+            (some, above, few, AreStacked-more (length conflict.members) half.found (reverse old) most h.place.stacked));
+      };
+    }
+
+-- a range of two places and more, by its halves
+range_plan-halves : (members : List ℕ) (before size : ℕ) (conflict : List ℕ) → 2 ≤ size → before + size ≤ length members →
+    chain (range_plan members (before + size / 2) (size - size / 2) conflict true) (λ further. range_plan members before (size / 2) further (not (length further == length conflict))) ≡ range_plan members before size conflict false
+range_plan-halves members before size conflict l within =
+    let lower : lower_half (at_range members before size) ≡ at_range members before (size / 2) = lower_half-at_range members before size within in
+    let upper : upper_half (at_range members before size) ≡ at_range members (before + size / 2) (size - size / 2) = upper_half-at_range members before size within in
+    let under : take before members ++ lower_half (at_range members before size) ≡ take (before + size / 2) members = ap (λ (t : List ℕ). take before members ++ t) lower ∙ below-at_range members before (size / 2) in
+    let many : length (at_range members before size) ≡ size = length-at_range members before size within in
+    sym (part_plan-halves (take before members) (at_range members before size) conflict false (omega arith)
+    ∙ ap (λ (below : List ℕ). chain (part_plan below (upper_half (at_range members before size)) conflict true) (λ further. part_plan (take before members) (lower_half (at_range members before size)) further (not (length further == length conflict)))) under
+    ∙ ap (λ (second : List ℕ). chain (part_plan (take (before + size / 2) members) second conflict true) (λ further. part_plan (take before members) (lower_half (at_range members before size)) further (not (length further == length conflict)))) upper
+    ∙ ap (λ (first : List ℕ). chain (range_plan members (before + size / 2) (size - size / 2) conflict true) (λ further. part_plan (take before members) first further (not (length further == length conflict)))) lower)
+
+-- the upper half is done first, and the lower half waits
+pub divided : (members : List ℕ) (before size : ℕ) (conflict : List ℕ) (old new : List Half) (half : Half) → 2 ≤ size → before + size ≤ length members → new ≡ old ++ half ∷ [] → half.before ≡ before → half.length ≡ size / 2 → half.found ≡ length conflict →
+    with_waiting members (before + size / 2) (size - size / 2) conflict true new ≡ with_waiting members before size conflict false old
+divided members before size conflict old new half l within e b m f =
+    chain-same (range_plan members (before + size / 2) (size - size / 2) conflict true) (range_plan members (before + size / 2) (size - size / 2) conflict true) (λ further. waiting members (reverse new) further)
+    (λ further. chain (range_plan members before (size / 2) further (not (length further == length conflict))) (λ last. waiting members (reverse old) last))
+    refl
+    (λ further.
+    ap (λ halves. waiting members halves further) (ap reverse e ∙ reverse-push old half)
+    ∙ ap (λ at. chain (range_plan members at half.length further (not (length further == half.found))) (λ last. waiting members (reverse old) last)) b
+    ∙ ap (λ m. chain (range_plan members before m further (not (length further == half.found))) (λ last. waiting members (reverse old) last)) m
+    ∙ ap (λ k. chain (range_plan members before (size / 2) further (not (length further == k))) (λ last. waiting members (reverse old) last)) f)
+    ∙ sym (chain-chain (range_plan members (before + size / 2) (size - size / 2) conflict true) (λ further. range_plan members before (size / 2) further (not (length further == length conflict))) (λ last. waiting members (reverse old) last))
+    ∙ ap (λ p. chain p (λ last. waiting members (reverse old) last)) (range_plan-halves members before size conflict l within)
+
+-- a single position joins the conflict
+pub joined : (members : List ℕ) (before size x : ℕ) (conflict : List ℕ) (halves : List Half) → size ≡ 1 → before < length members → slice_get members before ≡ Some x → waiting members (reverse halves) (x ∷ conflict) ≡ with_waiting members before size conflict false halves
+joined members before size x conflict halves e l s =
+    sym (ap (λ m. with_waiting members before m conflict false halves) e
+    ∙ ap (λ (positions : List ℕ). chain (part_plan (take before members) positions conflict false) (λ further. waiting members (reverse halves) further)) (at_range-one members before x l s))
+
+-- the last of a list and what is before it
+pub parted : (last : ℕ) (old new : List Half) (half : Half) → last + 1 ≡ length old → new ≡ take last old → slice_get old last ≡ Some half → old ≡ new ++ half ∷ []
+parted last old new half l t s =
+    let less : last < length old = omega arith in
+    let there : half ≡ get_or old last half = sym (get_or_from_slice_get old last half half s) in
+    sym (take_all (length old) old (omega arith)) ∙ ap (λ k. take k old) (sym l) ∙ take_more old last half less
+    ∙ ap (λ (x : Half). take last old ++ x ∷ []) (sym there) ∙ ap (λ (xs : List Half). xs ++ half ∷ []) (sym t)
