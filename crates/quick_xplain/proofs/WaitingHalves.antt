@@ -18,66 +18,6 @@ use Rattle.quick_xplain.proofs.Rising.{RiseWithin-below}
 pub reverse-push : (old : List Half) (half : Half) → reverse (old ++ half ∷ []) ≡ half ∷ reverse old
 reverse-push old half = reverse-append old (half ∷ [])
 
-pub AreStacked-more : (most more : ℕ) (halves : List Half) → most ≤ more → AreStacked most halves → AreStacked more halves
-AreStacked-more most more [] l h = tt
-AreStacked-more most more (half ∷ halves) l h = (h.0, h.1, (let few : half.found ≤ most = h.2 in omega arith), h.3)
-
--- the last of the halves is taken
-pub record IsTaken (among conflict : PositionSet) (most : ℕ) (half : Half) (new : List Half) : Type 0 where
-  pub some : 0 < half.length
-  pub few : half.found ≤ most
-  pub place : StandsBetween half.before (half.before + half.length) among conflict half.found new
-
-pub taken : (among conflict : PositionSet) (most : ℕ) (old new : List Half) (half : Half) → old ≡ new ++ half ∷ [] → StandsAt among conflict most old → IsTaken among conflict most half new
-taken among conflict most old new half e h =
-    let turned : reverse old ≡ half ∷ reverse new = ap reverse e ∙ reverse-push new half in
-    let all : AreStacked most (half ∷ reverse new) = subst (AreStacked most) turned h.stacked in
-    let high : end_of (reverse old) ≡ half.before + half.length = ap end_of turned in
-    let within : end_of (reverse old) ≤ length among.members = h.within in
-    record {
-      some = all.0;
-      few = all.2;
-      place = record {
-        key = h.key;
-        over = h.over;
-        end = all.1;
-        order = omega arith;
-        within = omega arith;
-        above = subst (λ at. RiseWithin 0 among.n (take at among.members ++ conflict.members)) high h.above;
-        stacked = all.3;
-      };
-    }
-
-pub taken-range : (among conflict : PositionSet) (most : ℕ) (half : Half) (new : List Half) → most ≤ length conflict.members → IsTaken among conflict most half new → IsRange among conflict half.before half.length new
-taken-range among conflict most half new l t =
-    let few : half.found ≤ most = t.few in
-    record {
-      some = t.some;
-      place = record {
-        key = t.place.key;
-        over = t.place.over;
-        end = t.place.end;
-        order = t.place.order;
-        within = t.place.within;
-        above = t.place.above;
-        stacked = AreStacked-more half.found (length conflict.members) (reverse new) (omega arith) t.place.stacked;
-      };
-    }
-
--- it is done next
-pub waiting-last : (members : List ℕ) (conflict : List ℕ) (old new : List Half) (half : Half) → old ≡ new ++ half ∷ [] → waiting members (reverse old) conflict ≡ with_waiting members half.before half.length conflict (not (length conflict == half.found)) new
-waiting-last members conflict old new half e = ap (λ halves. waiting members halves conflict) (ap reverse e ∙ reverse-push new half)
-
--- something was found since it began to wait
-pub waiting-found : (members : List ℕ) (conflict : List ℕ) (old new : List Half) (half : Half) → old ≡ new ++ half ∷ [] → (¬ length conflict ≡ half.found) → waiting members (reverse old) conflict ≡ with_waiting members half.before half.length conflict true new
-waiting-found members conflict old new half e other =
-    waiting-last members conflict old new half e
-    ∙ ap (λ same. with_waiting members half.before half.length conflict (not same) new) (ne_eqb (length conflict) half.found other)
-
--- nothing waits
-pub waiting-none : (members : List ℕ) (conflict : List ℕ) (old : List Half) → old ≡ [] → waiting members (reverse old) conflict ≡ waiting members [] conflict
-waiting-none members conflict old e = ap (λ halves. waiting members (reverse halves) conflict) e
-
 -- fewer of the places
 pub stands-lower : (low high lower : ℕ) (among conflict : PositionSet) (most : ℕ) (halves : List Half) → end_of (reverse halves) ≤ lower → lower ≤ high → StandsBetween low high among conflict most halves → StandsBetween lower lower among conflict most halves
 stands-lower low high lower among conflict most halves e l h =
@@ -97,34 +37,6 @@ stands-done low high among conflict most halves h =
     let end : end_of (reverse halves) ≤ low = h.end in
     let order : low ≤ high = h.order in
     stands-lower low high (end_of (reverse halves)) among conflict most halves (omega arith) (omega arith) h
-
--- the upper half is begun, and the lower half waits
-pub stands-divided : (among conflict : PositionSet) (before size : ℕ) (old new : List Half) (half : Half) → 2 ≤ size → IsRange among conflict before size old → new ≡ old ++ half ∷ [] → half.before ≡ before → half.length ≡ size / 2 → half.found ≡ length conflict.members →
-    IsRange among conflict (before + size / 2) (size - size / 2) new
-stands-divided among conflict before size old new half l h e b m f =
-    let turned : reverse new ≡ half ∷ reverse old = ap reverse e ∙ reverse-push old half in
-    let low : end_of (reverse new) ≡ half.before + half.length = ap end_of turned in
-    let under : end_of (reverse old) ≤ before = h.place.end in
-    let within : before + size ≤ length among.members = h.place.within in
-    let high : before + size ≡ (before + size / 2) + (size - size / 2) = omega arith in
-    let most : length conflict.members ≤ half.found = omega arith in
-    record {
-      some = omega arith;
-      place = record {
-        key = h.place.key;
-        over = h.place.over;
-        end = omega arith;
-        order = omega arith;
-        within = omega arith;
-        above = subst (λ at. RiseWithin 0 among.n (take at among.members ++ conflict.members)) high h.place.above;
-        stacked =
-            subst (AreStacked (length conflict.members)) (sym turned)
-            (let some : 0 < half.length = omega arith in
-            let above : end_of (reverse old) ≤ half.before = omega arith in
-            let few : half.found ≤ length conflict.members = omega arith in
-            (some, above, few, AreStacked-more (length conflict.members) half.found (reverse old) most h.place.stacked));
-      };
-    }
 
 -- a range of two places and more, by its halves
 range_plan-halves : (members : List ℕ) (before size : ℕ) (conflict : List ℕ) → 2 ≤ size → before + size ≤ length members →

@@ -48,62 +48,6 @@ fn ends(rt: &impl Abort, state: &QuickXplain, conflict: &[u32]) -> Result<(), Al
     Ok(())
 }
 
-/// These keys are asked in turn and get these answers, and then this is the conflict.
-fn goes(
-    rt: &impl Abort,
-    mut state: QuickXplain,
-    answers: &[(&[u32], bool)],
-    conflict: &[u32],
-) -> Result<(), AllocError> {
-    for (asked, sat) in answers {
-        answer(rt, &mut state, asked, *sat)?;
-    }
-    ends(rt, &state, conflict)
-}
-
-/// One position; 1 and 2 don't go together; 1 and 3, and 2 and 4, don't; three of four do; none goes at all.
-#[test]
-fn goes_as_by_hand(rt: HostRuntime) -> Result<(), AllocError> {
-    let alloc = rt.alloc();
-    goes(&rt, among(&rt, alloc, 1, &[1])?, &[], &[1])?;
-    goes(
-        &rt,
-        among(&rt, alloc, 3, &[1, 2, 3])?,
-        &[(&[1], true), (&[1, 2], false), (&[2], true)],
-        &[1, 2],
-    )?;
-    goes(
-        &rt,
-        among(&rt, alloc, 4, &[1, 2, 3, 4])?,
-        &[
-            (&[1, 2], true),
-            (&[1, 2, 3], false),
-            (&[3], true),
-            (&[1, 3], false),
-        ],
-        &[1, 3],
-    )?;
-    goes(
-        &rt,
-        among(&rt, alloc, 4, &[1, 2, 3, 4])?,
-        &[
-            (&[1, 2], true),
-            (&[1, 2, 3], true),
-            (&[1, 2, 4], true),
-            (&[3, 4], true),
-            (&[1, 3, 4], true),
-            (&[2, 3, 4], true),
-        ],
-        &[1, 2, 3, 4],
-    )?;
-    goes(
-        &rt,
-        among(&rt, alloc, 3, &[1, 2, 3])?,
-        &[(&[1], false)],
-        &[1],
-    )
-}
-
 /// A start set that is no range; a copy in the middle goes on as the state does.
 #[test]
 fn no_range_and_a_copy(rt: HostRuntime) -> Result<(), AllocError> {
