@@ -1,9 +1,9 @@
 -- What is left after an answer.
-use Rattle.std.proofs.Common.{◌≡◌, ℕ, ◌+◌, ◌<◌, ◌≤◌, true, false, cond, List, ◌++◌, length, take, refl, sym, ◌∙◌, ap, arith}
+use Rattle.std.proofs.Common.{◌≡◌, ℕ, ◌+◌, ◌<◌, ◌≤◌, true, false, cond, List, ◌++◌, length, take, sym, ◌∙◌, ap, arith}
 use Rattle.std.specs.Prelude.{reverse}
 use Rattle.pref_sets.specs.Plan.{Plan, found, asks, chain, after_answer}
 use Rattle.req_keys.specs.Key.{PositionSet}
-use Rattle.quick_xplain.specs.inside.Remaining.{part_plan, range_plan, at_range, waiting, with_waiting, left_of, IsRange, AsksRange}
+use Rattle.quick_xplain.specs.inside.Remaining.{range_plan, at_range, waiting, with_waiting, left_of, AsksRange}
 use Rattle.quick_xplain.specs.declared.parts.Asking.{Asking}
 use Rattle.quick_xplain.specs.declared.parts.Half.{Half}
 use Rattle.quick_xplain.proofs.PartPlan.{part_plan-asks}

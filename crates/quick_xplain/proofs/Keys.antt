@@ -1,6 +1,6 @@
 -- The keys that are made: the members below a place, and a conflict with one more position below it.
 use Rattle.std.specs.Prelude.{◌==◌}
-use Rattle.std.proofs.Common.{◌≡◌, ℕ, zero, suc, ◌+◌, ◌<◌, ◌≤◌, ◌-◌, ◌||◌, ◌&&◌, not, Bool, true, false, List, [], ◌∷◌, ◌++◌, ◌⊎◌, inl, inr, ltb, length, take, drop, refl, sym, ◌∙◌, ap, subst, ⊎_elim, arith}
+use Rattle.std.proofs.Common.{◌≡◌, ℕ, zero, suc, ◌+◌, ◌<◌, ◌≤◌, ◌-◌, ◌||◌, ◌&&◌, not, Bool, true, false, List, ◌∷◌, ◌++◌, ◌⊎◌, inl, inr, ltb, length, take, drop, refl, sym, ◌∙◌, ap, subst, ⊎_elim, arith}
 use Rattle.std.specs.List.{range_with_len}
 use Rattle.std.specs.Prelude.{Some, slice_get}
 use Rattle.std.proofs.Math.Seq.{drop-cons}
@@ -12,7 +12,6 @@ use Rattle.req_keys.specs.Key.{PositionSet, key_with, difference_of}
 use Rattle.req_keys.specs.Positions.{RiseWithin, has, positions_where}
 use Rattle.req_keys.specs.Wanting.{key_over}
 use Rattle.req_keys.proofs.PositionsLaws.{filter-range_agree, positions_where-has, has-first, has-other, has-low, has-high, RiseWithin-range}
-use Rattle.req_keys.proofs.Rises.{RiseWithin-higher}
 use Rattle.quick_xplain.proofs.Rising.{before_number, RiseWithin-first, RiseWithin-last}
 
 or-swap : (a b : Bool) → (a || b) ≡ (b || a)

@@ -1,4 +1,5 @@
 pub mod AfterAnswer
+pub mod AskedSets
 pub mod AsksOnce
 pub mod Joining
 pub mod Keys

@@ -1,6 +1,6 @@
 -- The plan of a part: how deep is deep enough, and how it goes by halves.
 use Rattle.std.specs.Prelude.{◌==◌}
-use Rattle.std.proofs.Common.{◌≡◌, ℕ, zero, suc, ◌+◌, ◌<◌, ◌≤◌, ◌/◌, Bool, true, false, not, cond, List, [], ◌∷◌, ◌++◌, length, refl, ap, arith}
+use Rattle.std.proofs.Common.{◌≡◌, ℕ, zero, suc, ◌+◌, ◌<◌, ◌≤◌, Bool, true, false, not, cond, List, [], ◌∷◌, ◌++◌, length, refl, ap, arith}
 use Rattle.pref_sets.specs.Plan.{Plan, found, asks, chain}
 use Rattle.pref_sets.specs.Positions.{lower_half, upper_half}
 use Rattle.pref_sets.proofs.AscendingPositions.{halves-length}

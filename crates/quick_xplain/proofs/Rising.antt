@@ -1,5 +1,5 @@
 -- Lists that rise within bounds, without some of their numbers.
-use Rattle.std.proofs.Common.{◌≡◌, ℕ, ◌+◌, ◌<◌, ◌≤◌, ◌-◌, List, [], ◌∷◌, ◌++◌, length, take, sym, ◌∙◌, ap, subst, arith, append_assoc}
+use Rattle.std.proofs.Common.{◌≡◌, ℕ, ◌+◌, ◌<◌, ◌≤◌, ◌-◌, List, [], ◌∷◌, ◌++◌, take, sym, ◌∙◌, ap, subst, arith, append_assoc}
 use Rattle.req_keys.specs.Positions.{RiseWithin}
 use Rattle.req_keys.proofs.PositionsLaws.{RiseWithin-lower}
 use Rattle.quick_xplain.specs.inside.Remaining.{at_range}

@@ -1,18 +1,16 @@
 -- The halves that wait.
-use Rattle.std.proofs.Common.{◌≡◌, ℕ, zero, suc, ◌+◌, ◌<◌, ◌≤◌, ◌-◌, ◌/◌, Bool, true, false, not, List, [], ◌∷◌, ◌++◌, length, take, get_or, refl, sym, ◌∙◌, ap, subst, arith, append_assoc}
+use Rattle.std.proofs.Common.{◌≡◌, ℕ, ◌+◌, ◌<◌, ◌≤◌, ◌-◌, ◌/◌, true, false, not, List, [], ◌∷◌, ◌++◌, length, take, get_or, refl, sym, ◌∙◌, ap, arith}
 use Rattle.std.specs.Prelude.{reverse, Some, slice_get, ◌==◌}
-use Rattle.std.proofs.lemmas.Bool.{ne_eqb}
 use Rattle.std.proofs.lemmas.List.{reverse-append, take_more, take_all}
 use Rattle.std.proofs.lemmas.Option.{get_or_from_slice_get}
 use Rattle.pref_sets.specs.Plan.{chain}
 use Rattle.pref_sets.specs.Positions.{lower_half, upper_half}
 use Rattle.pref_sets.proofs.PlansLeft.{chain-same, chain-chain}
 use Rattle.req_keys.specs.Key.{PositionSet}
-use Rattle.req_keys.specs.Positions.{RiseWithin}
-use Rattle.quick_xplain.specs.inside.Remaining.{part_plan, range_plan, at_range, waiting, with_waiting, end_of, AreStacked, StandsBetween, StandsAt, IsRange}
+use Rattle.quick_xplain.specs.inside.Remaining.{part_plan, range_plan, at_range, waiting, with_waiting, end_of, StandsBetween, StandsAt}
 use Rattle.quick_xplain.specs.declared.parts.Half.{Half}
 use Rattle.quick_xplain.proofs.PartPlan.{part_plan-halves}
-use Rattle.quick_xplain.proofs.Places.{length-at_range, below-at_range, lower_half-at_range, upper_half-at_range, at_range-one, take-next}
+use Rattle.quick_xplain.proofs.Places.{length-at_range, below-at_range, lower_half-at_range, upper_half-at_range, at_range-one}
 use Rattle.quick_xplain.proofs.Rising.{RiseWithin-below}
 
 pub reverse-push : (old : List Half) (half : Half) → reverse (old ++ half ∷ []) ≡ half ∷ reverse old

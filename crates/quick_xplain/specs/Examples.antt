@@ -1,9 +1,8 @@
 -- Worked examples of the state. Each computes.
 use Rattle.std.specs.Prelude.{◌≡◌, ℕ, Bool, true, false, Some, None, List, [], ◌∷◌, refl}
-use Rattle.pref_sets.specs.Answers.{Answer, Ask, Done, told_in_turn}
+use Rattle.pref_sets.specs.Answers.{Answer, Done, told_in_turn}
 use Rattle.pref_sets.specs.AskedKey.{asked_key}
 use Rattle.pref_sets.specs.QuickXplain.{qx}
-use Rattle.req_keys.specs.Key.{full_key}
 use Rattle.req_keys.specs.Wanting.{key_over}
 use Rattle.quick_xplain.specs.Explaining.{Explaining, next_of}
 

@@ -1,6 +1,6 @@
 //! The state: the start set, the told answers, and what is still to do.
-ghost use Rattle.std.specs.Prelude.{◌≡◌, ℕ, ◌<◌, List, [], ◌∷◌, ◌++◌, length, IfOk, OnErr, OnOk};
-ghost use Rattle.pref_sets.specs.Answers.{Next, Ask, Done, IsAsking, IsDone, IsToldInTurn};
+ghost use Rattle.std.specs.Prelude.{◌≡◌, ℕ, ◌-◌, ◌*◌, ◌<◌, ◌≤◌, None, List, [], ◌∷◌, ◌++◌, length, IfOk, OnErr, OnOk};
+ghost use Rattle.pref_sets.specs.Answers.{Next, Ask, Done, IsAsking, IsDone, IsToldInTurn, answer_to};
 ghost use Rattle.pref_sets.specs.AskedKey.{asked_key};
 ghost use Rattle.pref_sets.specs.QuickXplain.{qx};
 ghost use Rattle.req_keys.specs.Key.{IsKey};
@@ -54,10 +54,12 @@ impl QuickXplain {
     }
 
     /// The key whose verdict is wanted: that of the set which QuickXplain asks over the told answers. They were told in
-    /// turn, so no set was asked twice, and of m members there are at most 2 * m - 2 of them.
+    /// turn. No set is asked twice, and of m members at most 2 * m - 2 sets are asked.
     pub fn want(&self) -> Want<'_>
         ensures asks { wanted_key result ≡ asked_key self.now.among.n (next_of self.now) }
         ensures told { IsToldInTurn (qx self.now.among.members) [] self.now.told }
+        ensures new { (set : List ℕ) → next_of self.now ≡ Ask set → answer_to self.now.told set ≡ None }
+        ensures few { length self.now.told ≤ 2 * length self.now.among.members - 2 }
         ensures among { IsKey self.now.among }
     {
         match &self.part {

@@ -1,5 +1,5 @@
 -- What is left to do, as a plan: which set is asked, and how it goes on after each answer. It finds the whole conflict.
-use Rattle.std.specs.Prelude.{◌≡◌, ℕ, zero, suc, ◌+◌, ◌/◌, ◌<◌, ◌≤◌, ◌==◌, Bool, true, false, not, if◌then◌else◌, List, [], ◌∷◌, ◌++◌, length, take, drop, reverse}
+use Rattle.std.specs.Prelude.{◌≡◌, ℕ, zero, suc, ◌+◌, ◌<◌, ◌≤◌, ◌==◌, Bool, true, false, not, if◌then◌else◌, List, [], ◌∷◌, ◌++◌, length, take, drop, reverse}
 use Rattle.pref_sets.specs.Plan.{Plan, found, asks, chain}
 use Rattle.pref_sets.specs.Positions.{lower_half, upper_half}
 use Rattle.req_keys.specs.Key.{PositionSet, IsKey}

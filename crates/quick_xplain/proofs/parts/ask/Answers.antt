@@ -1,4 +1,4 @@
-use Rattle.std.proofs.Common.{◌≡◌, ◌+◌, ◌<◌, ◌≤◌, ◌++◌, take, ◌∙◌, ap, arith}
+use Rattle.std.proofs.Common.{◌+◌, ◌++◌, take, ◌∙◌, ap, arith}
 use Rattle.req_keys.specs.Key.{PositionSet, union_of}
 use Rattle.req_keys.specs.Positions.{RiseWithin}
 use Rattle.req_keys.specs.Wanting.{key_over}
