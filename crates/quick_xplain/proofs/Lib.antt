@@ -1,0 +1,11 @@
+pub mod AfterAnswer
+pub mod AskedSets
+pub mod AsksOnce
+pub mod Joining
+pub mod Keys
+pub mod PartPlan
+pub mod PartPlanAgrees
+pub mod Places
+pub mod Rising
+pub mod Standing
+pub mod WaitingHalves
