@@ -1,24 +1,27 @@
 -- Worked examples: what short files say, each computed. The values were worked out by hand.
-use Rattle.std.specs.Prelude.{◌≡◌, ℕ, true, false, List, [], ◌∷◌, ◌++◌, Option, Some, None, Result, Ok, Err, codes, refl}
-use Rattle.uvl_lex.specs.declared.token.Keyword.TheVariants.{Constraints}
-use Rattle.uvl_lex.specs.declared.token.Mark.TheVariants.{Bang, Comma, OpenRound, CloseRound, OpenSquare, CloseSquare}
+use Rattle.std.specs.Prelude.{◌≡◌, ℕ, zero, suc, ◌+◌, false, replicate, List, [], ◌∷◌, ◌++◌, Option, Some, None, Result, Ok, Err, codes, refl}
+use Rattle.std.proofs.Common.{ap, ◌∙◌}
+use Rattle.uvl_lex.specs.declared.token.Keyword.TheVariants.{Features, Constraints, Integer, Or as OrWord}
+use Rattle.uvl_lex.specs.declared.token.Mark.TheVariants.{Amp, Bang, Bar, Comma, Then, OpenRound, CloseRound, OpenSquare, CloseSquare, OpenCurly, CloseCurly}
+use Rattle.uvl_lex.specs.declared.token.Line.{Line}
 use Rattle.uvl_lex.specs.declared.token.Token.{Token}
 use Rattle.uvl_lex.specs.declared.token.TokenKind.{TokenKind}
-use Rattle.uvl_lex.specs.declared.token.TokenKind.TheVariants.{Name as NameToken, Keyword, Mark}
+use Rattle.uvl_lex.specs.declared.token.TokenKind.TheVariants.{Name as NameToken, Quoted, Keyword, Mark}
 use Rattle.uvl_lex.specs.Examples.{computing as text_computing}
 use Rattle.feature_tree.specs.declared.feature.Feature.{Feature}
 use Rattle.feature_tree.specs.declared.formula.Formula.{Formula}
-use Rattle.feature_tree.specs.declared.formula.Formula.TheVariants.{Name, Not}
+use Rattle.feature_tree.specs.declared.formula.Formula.TheVariants.{Name, Not, All, Any, Implies}
 use Rattle.feature_tree.specs.declared.group.Group.{Group}
 use Rattle.feature_tree.specs.declared.group.GroupKind.{GroupKind}
-use Rattle.feature_tree.specs.declared.group.GroupKind.TheVariants.{Mandatory, Optional, Alternative, Range}
+use Rattle.feature_tree.specs.declared.group.GroupKind.TheVariants.{Mandatory, Optional, Or, Alternative, Range}
 use Rattle.feature_tree.specs.FeatureModel.{FeatureModel}
 use Rattle.feature_tree.specs.Folds.{folds}
 use Rattle.feature_tree.specs.FormulaAnswerExamples.{computing as formula_computing}
 use Rattle.uvl_reader.specs.declared.error.Reason.{Reason}
-use Rattle.uvl_reader.specs.declared.error.Reason.TheVariants.{NotUtf8, BadToken, OpenBracket, OpenComment, BadIndent, Misplaced, BadGroup, BadFeature, BadFormula, Unsupported, Twice, NoFeatures}
-use Rattle.uvl_reader.specs.Judgement.{Refusal}
-use Rattle.uvl_reader.specs.ModelReading.{constraint_of, formulas_in_shape, has_unknown, model_of}
+use Rattle.uvl_reader.specs.declared.error.Reason.TheVariants.{NotUtf8, BadToken, OpenBracket, OpenComment, BadIndent, Misplaced, BadGroup, BadFeature, BadFormula, TooDeep, TooMany, Unsupported, Twice, Unknown, NoFeatures}
+use Rattle.uvl_reader.specs.Nesting.{judged_lines}
+use Rattle.uvl_reader.specs.Refusals.{Refusal, feature_fault, shape_fault}
+use Rattle.uvl_reader.specs.ModelReading.{constraint_of, formulas_in_shape, lines_fault, model_of, model_on, model_unless, placed_behind}
 
 -- `unfolding computing` lets `refl` compute a model
 unfoldable computing : Unit {0}
@@ -48,6 +51,15 @@ alone constraints = model (feature (codes "R") None [] ∷ []) constraints
 abbrev with_child : GroupKind → ℕ → Option ℕ → Answer
 with_child kind low high =
     model (feature (codes "R") None (group kind low high (1 ∷ []) ∷ []) ∷ feature (codes "A") (Some 0) [] ∷ []) []
+
+abbrev at : ℕ → TokenKind → ℕ → ℕ → Token
+at number kind start end = record { kind = kind; start = start; end = end; line = number }
+
+abbrev token : TokenKind → ℕ → ℕ → Token
+token kind start end = at 1 kind start end
+
+abbrev line : ℕ → ℕ → List Token → Line
+line number indent tokens = record { number = number; indent = indent; tokens = tokens }
 
 -- ---- a whole model
 
@@ -115,6 +127,11 @@ pub under_a_namespace : model_of (codes "namespace N\n\tR\n") ≡ refused 2 Misp
 unfolding computing
 under_a_namespace = refl
 
+-- a column after a comment
+pub comment_before_column : model_of (codes "/*\n*/ features\n") ≡ refused 2 BadIndent
+unfolding computing
+comment_before_column = refl
+
 -- ---- sections
 
 pub features_again : model_of (codes "features\nfeatures\n") ≡ refused 2 Misplaced
@@ -137,6 +154,10 @@ imports_last = refl
 pub features_not_alone : model_of (codes "features R\n") ≡ refused 1 Misplaced
 unfolding computing
 features_not_alone = refl
+
+pub constraints_not_alone : model_of (codes "constraints R\n") ≡ refused 1 Misplaced
+unfolding computing
+constraints_not_alone = refl
 
 pub no_section : model_of (codes "R\n") ≡ refused 1 Misplaced
 unfolding computing
@@ -204,6 +225,32 @@ pub no_child_and_bad_indent : model_of (codes "features\n\tR\n\t\tor\n    A\n") 
 unfolding computing
 no_child_and_bad_indent = refl
 
+pub or_group : model_of (codes "features\n\tR\n\t\tor\n\t\t\tA\n") ≡ with_child Or 0 None
+unfolding computing
+or_group = refl
+
+pub equal_bounds : model_of (codes "features\n\tR\n\t\t[2..2]\n\t\t\tA\n") ≡ with_child Range 2 (Some 2)
+unfolding computing
+equal_bounds = refl
+
+pub comma_for_dots : model_of (codes "features\n\tR\n\t\t[1,2]\n\t\t\tA\n") ≡ refused 3 BadGroup
+unfolding computing
+comma_for_dots = refl
+
+pub star_twice : model_of (codes "features\n\tR\n\t\t[*..*]\n\t\t\tA\n") ≡ refused 3 BadGroup
+unfolding computing
+star_twice = refl
+
+-- the earlier of two
+pub childless_before_childless : model_of (codes "features\n\tR\n\t\tor\n\t\tor or\n") ≡ refused 3 BadGroup
+unfolding computing
+childless_before_childless = refl
+
+-- before the section that shows it
+pub childless_before_section : model_of (codes "features\n\tR\n\t\tor\nimports\n") ≡ refused 3 BadGroup
+unfolding computing
+childless_before_section = refl
+
 -- ---- features
 
 pub boolean_feature : model_of (codes "features\n\tR\n\t\tmandatory\n\t\t\tBoolean A\n") ≡ with_child Mandatory 0 None
@@ -248,6 +295,74 @@ pub same_name_and_bad_formula : model_of (codes "features\n\tR\n\t\tmandatory\n\
 unfolding computing
 same_name_and_bad_formula = refl
 
+pub real_feature : model_of (codes "features\n\tR\n\t\tmandatory\n\t\t\tReal A\n") ≡ refused 4 Unsupported
+unfolding computing
+real_feature = refl
+
+pub string_alone : model_of (codes "features\n\tR\n\t\tmandatory\n\t\t\tString\n") ≡ refused 4 Unsupported
+unfolding computing
+string_alone = refl
+
+-- a dot, or `cardinality`, after a name with a type
+pub boolean_dotted : model_of (codes "features\n\tR\n\t\tmandatory\n\t\t\tBoolean A.B\n") ≡ refused 4 Unsupported
+unfolding computing
+boolean_dotted = refl
+
+pub boolean_cardinality : model_of (codes "features\n\tR\n\t\tmandatory\n\t\t\tBoolean A cardinality\n") ≡ refused 4 Unsupported
+unfolding computing
+boolean_cardinality = refl
+
+-- only the first token is a type
+pub boolean_integer : model_of (codes "features\n\tR\n\t\tmandatory\n\t\t\tBoolean Integer A\n") ≡ refused 4 BadFeature
+unfolding computing
+boolean_integer = refl
+
+pub other_word_before_a_name : model_of (codes "features\n\tR\n\t\tmandatory\n\t\t\tor A\n") ≡ refused 4 BadFeature
+unfolding computing
+other_word_before_a_name = refl
+
+pub quoted_name_and_dot : model_of (codes "features\n\tR\n\t\tmandatory\n\t\t\t\"A\".B\n") ≡ refused 4 Unsupported
+unfolding computing
+quoted_name_and_dot = refl
+
+pub dot_in_double_quotes : model_of (codes "features\n\tR\n\t\tmandatory\n\t\t\t\"A.B\"\n") ≡ refused 4 BadFeature
+unfolding computing
+dot_in_double_quotes = refl
+
+pub square_for_braces : model_of (codes "features\n\tR\n\t\tmandatory\n\t\t\tA [1]\n") ≡ refused 4 BadFeature
+unfolding computing
+square_for_braces = refl
+
+pub two_pairs_of_braces : model_of (codes "features\n\tR\n\t\tmandatory\n\t\t\tA {x} {y}\n") ≡ refused 4 BadFeature
+unfolding computing
+two_pairs_of_braces = refl
+
+-- the greatest depth: so many lines, each indented further than the one before it, and a line under all of them
+abbrev nested : ℕ → List Line
+nested zero = []
+nested (suc n) = record { number = suc n; indent = n; tokens = [] } ∷ nested n
+
+abbrev under_all : ℕ → Line
+under_all n = record { number = n + 1; indent = n; tokens = token (Keyword Integer) 0 7 ∷ [] }
+
+pub depth_1000 : feature_fault [] (nested 1999) (under_all 1999) ≡ Some Unsupported
+depth_1000 = refl
+
+pub depth_1001 : feature_fault [] (nested 2001) (under_all 2001) ≡ Some TooDeep
+depth_1001 = refl
+
+-- after so many features, a feature with a name that was there
+abbrev one_more : ℕ → Option Reason
+one_more count = shape_fault (codes "A") (replicate count (codes "A")) (Some (record { name = token NameToken 0 1; attributes = [] }))
+
+pub feature_65535 : one_more 65534 ≡ Some Twice
+unfolding computing
+feature_65535 = refl
+
+pub feature_65536 : one_more 65535 ≡ Some TooMany
+unfolding computing
+feature_65536 = refl
+
 -- ---- attributes
 
 pub nothing_between_the_braces : model_of (codes "features\n\tR {}\n") ≡ alone []
@@ -278,6 +393,24 @@ pub word_in_quotes : model_of (codes "features\n\tR {\"constraint\" x}\n") ≡ a
 unfolding computing
 word_in_quotes = refl
 
+-- items are judged in order
+pub wrong_form_after_bad_formula : model_of (codes "features\n\tR\n\t\tmandatory\n\t\t\tA {constraint &, constraints}\n") ≡ refused 4 BadFormula
+unfolding computing
+wrong_form_after_bad_formula = refl
+
+-- the name before the form of an item
+pub twice_before_wrong_form : model_of (codes "features\n\tR\n\t\tmandatory\n\t\t\tR {constraints}\n") ≡ refused 4 Twice
+unfolding computing
+twice_before_wrong_form = refl
+
+pub round_for_square : model_of (codes "features\n\tR {constraints (R)}\n") ≡ refused 2 BadFeature
+unfolding computing
+round_for_square = refl
+
+pub number_in_an_attribute : model_of (codes "features\n\tR {constraint 1 &}\n") ≡ refused 2 Unsupported
+unfolding computing
+number_in_an_attribute = refl
+
 -- ---- the whole model
 
 -- with the line of `features`
@@ -289,15 +422,26 @@ pub no_features_section : model_of (codes "constraints\n\tT\n") ≡ refused 1 No
 unfolding computing
 no_features_section = refl
 
+-- with the line of the first name that is no feature's
+pub unknown_name : model_of (codes "features\n\tR\nconstraints\n\tR\n\t\"S\" | R\n\tZ\n") ≡ refused 5 Unknown
+unfolding computing
+unknown_name = refl
+
+-- with the line on which the feature begins
+pub unknown_in_an_attribute : model_of (codes "features\n\tR {x,\nconstraint\nT}\nconstraints\n\tZ\n") ≡ refused 2 Unknown
+unfolding computing
+unknown_in_an_attribute = refl
+
+pub number_in_a_constraint : model_of (codes "features\n\tR\nconstraints\n\t1\n") ≡ refused 4 Unsupported
+unfolding computing
+number_in_a_constraint = refl
+
 -- every line is judged before names are looked up
 pub bad_formula_behind_unknown : model_of (codes "features\n\tR {constraint T}\nconstraints\n\t!\n") ≡ refused 4 BadFormula
 unfolding computing
 bad_formula_behind_unknown = refl
 
 -- ---- formulas
-
-abbrev token : TokenKind → ℕ → ℕ → Token
-token kind start end = record { kind = kind; start = start; end = end; line = 1 }
 
 -- a [b, c], constraints [R, !R], constraint(R)
 abbrev attributes : List ℕ
@@ -326,13 +470,39 @@ formulas_in_attributes = refl
 abbrev known : List (List ℕ)
 known = codes "S" ∷ codes "R" ∷ []
 
--- a name stands for the feature that has it
-pub known_name : has_unknown attributes known not_r (Not (Name 1)) ≡ false
-known_name = simp folds refl
-
-pub unknown_name : has_unknown attributes (codes "S" ∷ []) not_r (Not (Name 1)) ≡ true
-unknown_name = simp folds refl
-
 pub with_features_for_names : constraint_of attributes known not_r ≡ Some (Not (Name 1))
 unfolding computing
 with_features_for_names = simp folds refl
+
+-- a whole file with formulas, in two steps: no line is refused, and the model
+abbrev formulas_file : List ℕ
+formulas_file = codes "features\n\tR\n\t\tor\n\t\t\tA {constraint !R | A & R}\nconstraints\n\tR => A => \"R\"\n"
+
+abbrev formulas_lines : List Line
+formulas_lines =
+    line 1 0 (at 1 (Keyword Features) 0 8 ∷ [])
+    ∷ line 2 8 (at 2 NameToken 10 11 ∷ [])
+    ∷ line 3 16 (at 3 (Keyword OrWord) 14 16 ∷ [])
+    ∷ line 4 24 (at 4 NameToken 20 21 ∷ at 4 (Mark OpenCurly) 22 23 ∷ at 4 NameToken 23 33 ∷ at 4 (Mark Bang) 34 35 ∷ at 4 NameToken 35 36 ∷ at 4 (Mark Bar) 37 38 ∷ at 4 NameToken 39 40 ∷ at 4 (Mark Amp) 41 42 ∷ at 4 NameToken 43 44 ∷ at 4 (Mark CloseCurly) 44 45 ∷ [])
+    ∷ line 5 0 (at 5 (Keyword Constraints) 46 57 ∷ [])
+    ∷ line 6 8 (at 6 NameToken 59 60 ∷ at 6 (Mark Then) 61 63 ∷ at 6 NameToken 64 65 ∷ at 6 (Mark Then) 66 68 ∷ at 6 Quoted 69 72 ∷ []) ∷ []
+
+pub formulas_not_refused : lines_fault formulas_file (judged_lines false formulas_lines) ≡ None
+unfolding computing
+formulas_not_refused = refl
+
+abbrev formulas_model : FeatureModel
+formulas_model = record {
+  features = feature (codes "R") None (group Or 0 None (1 ∷ []) ∷ []) ∷ feature (codes "A") (Some 0) [] ∷ [];
+  constraints = Any (Not (Name 0) ∷ All (Name 1 ∷ Name 0 ∷ []) ∷ []) ∷ Implies (Implies (Name 0) (Name 1)) (Name 0) ∷ [];
+}
+
+pub formulas_read : model_on formulas_file (placed_behind [] (judged_lines false formulas_lines)) ≡ formulas_model
+unfolding computing
+formulas_read = simp folds refl
+
+pub file_with_formulas : model_of formulas_file ≡ Ok formulas_model
+unfolding computing
+file_with_formulas =
+    ap (λ fault. model_unless fault (model_on formulas_file (placed_behind [] (judged_lines false formulas_lines)))) formulas_not_refused
+    ∙ ap Ok formulas_read

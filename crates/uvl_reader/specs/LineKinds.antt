@@ -7,7 +7,7 @@ use Rattle.uvl_lex.specs.declared.token.TokenKind.TheVariants.{Keyword}
 use Rattle.uvl_lex.specs.declared.token.Keyword.TheVariants.{Namespace, Include, Imports, Features, Constraints}
 use Rattle.uvl_reader.specs.Nesting.{lines_above}
 
--- the five sections, in the order in which they come
+-- the five sections, in the order in which they come here
 pub data Section : Type 0 where
   NamespaceSection : Section
   IncludeSection : Section
@@ -35,7 +35,7 @@ place_of ImportsSection = 2
 place_of FeaturesSection = 3
 place_of ConstraintsSection = 4
 
--- what a line is: an unindented line; a feature; a group; a constraint; or a line that stands where none may
+-- what a line is: one under no other; a feature; a group; a constraint; or a line that stands where none may
 pub data LineKind : Type 0 where
   SectionLine : Option Section → LineKind
   FeatureLine : LineKind
@@ -70,7 +70,7 @@ abbrev pub is_group : LineKind → Bool
 is_group GroupLine = true
 is_group _ = false
 
--- whether so many lines stand above: the root stands under one, the features section
+-- whether it is exactly one line; the root stands under one, the features section
 abbrev pub is_one : List Line → Bool
 is_one (line ∷ []) = true
 is_one _ = false

@@ -1,7 +1,7 @@
 -- What a model file says: a feature model, or the first refused line and why. Own to this project, but for UVL's forms.
-use Rattle.std.specs.Prelude.{ℕ, ◌==◌, ◌&&◌, not, Bool, true, false, if◌then◌else◌, List, [], ◌∷◌, map, filter, filter_map, reverse, slice_get, position, unwrap_or, Option, Some, None, Result, Ok, Err}
+use Rattle.std.specs.Prelude.{ℕ, ◌==◌, ◌&&◌, not, Bool, true, false, if◌then◌else◌, List, [], ◌∷◌, map, filter, filter_map, reverse, position, unwrap_or, Option, Some, None, Result, Ok, Err}
 use Rattle.std.specs.List.{flat_map, list_any}
-use Rattle.std.specs.Option.{option_map, option_and_then}
+use Rattle.std.specs.Option.{option_map, is_some}
 use Rattle.std.specs.Str.{bytes_eq}
 use Rattle.uvl_lex.specs.declared.error.LexError.{LexError}
 use Rattle.uvl_lex.specs.declared.error.LexError.TheVariants as lexed
@@ -16,15 +16,14 @@ use Rattle.feature_tree.specs.declared.formula.Formula.{Formula}
 use Rattle.feature_tree.specs.declared.group.Group.{Group}
 use Rattle.feature_tree.specs.FeatureModel.{FeatureModel}
 use Rattle.feature_tree.specs.FormulaAnswer.{formula_answer}
-use Rattle.feature_tree.specs.Names.{names}
 use Rattle.feature_tree.specs.Numbered.{numbered}
 use Rattle.uvl_reader.specs.declared.error.Reason.{Reason}
 use Rattle.uvl_reader.specs.declared.error.Reason.TheVariants as reason
 use Rattle.uvl_reader.specs.Nesting.{judged_lines, lines_above}
 use Rattle.uvl_reader.specs.LineKinds.{Section, FeaturesSection, LineKind, FeatureLine, ConstraintLine, section_of, kind_of, is_feature, is_group, has_root}
-use Rattle.uvl_reader.specs.Shapes.{Header, FeatureShape, header_of, feature_of}
+use Rattle.uvl_reader.specs.Shapes.{Header, FeatureShape, header_of, feature_of, is_name}
 use Rattle.uvl_reader.specs.Attributes.{items_of, formulas_of_item}
-use Rattle.uvl_reader.specs.Judgement.{Refusal, first_of, refusal_at, fault_if, feature_name, first_refused}
+use Rattle.uvl_reader.specs.Refusals.{Refusal, first_of, refusal_at, fault_if, feature_name, first_refused}
 
 -- ---- lines with their places
 
@@ -93,17 +92,9 @@ formulas_on bytes _ tokens = []
 abbrev pub named_by : List ℕ → List (List ℕ) → Token → Option ℕ
 named_by bytes known token = position (bytes_eq (token_text bytes token)) known
 
-abbrev pub is_known : Option ℕ → Bool
-is_known None = false
-is_known (Some number) = true
-
--- whether a name of the formula, the number of a token, is that of no feature
-abbrev pub has_unknown : List ℕ → List (List ℕ) → List Token → Formula → Bool
-has_unknown bytes known tokens read =
-    list_any (λ name. not (is_known (option_and_then (named_by bytes known) (slice_get tokens name)))) (names read)
-
+-- whether some name among the tokens of a formula is no feature's
 abbrev pub names_unknown : List ℕ → List (List ℕ) → List Token → Bool
-names_unknown bytes known tokens = elim (formula_answer tokens) [ Ok read ↦ has_unknown bytes known tokens read | Err error ↦ false ]
+names_unknown bytes known tokens = list_any (λ token. is_name token.kind && not (is_some (named_by bytes known token))) tokens
 
 -- the formula, with features for names
 abbrev pub constraint_of : List ℕ → List (List ℕ) → List Token → Option Formula
@@ -121,7 +112,7 @@ abbrev pub features_number : List Line → ℕ
 features_number [] = 1
 features_number (line ∷ lines) = if (line.indent == 0) && is_features_line (section_of line.tokens) then line.number else features_number lines
 
--- the first line with a formula that names no feature
+-- the first line in which a name in a formula is no feature's
 abbrev pub first_unknown : List ℕ → List (List ℕ) → List PlacedLine → Option Refusal
 first_unknown bytes known [] = None
 first_unknown bytes known (at ∷ placed) =

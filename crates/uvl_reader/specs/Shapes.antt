@@ -32,7 +32,7 @@ bound_of bytes token = bound_by token.kind (token_text bytes token)
 
 -- ---- group lines
 
--- what a group line says: its kind, and of a range the least and the greatest number of children
+-- what a group line says: its kind, and of a range the least and the greatest number of children; other kinds have 0 and none
 pub record Header : Type 0 where
   pub kind : GroupKind
   pub low : ℕ
@@ -65,13 +65,13 @@ abbrev pub header_of_two : List ℕ → Token → Token → TokenKind → Option
 header_of_two bytes low high (Mark Star) = option_map (λ n. range n None) (bound_of bytes low)
 header_of_two bytes low high kind = option_and_then (λ n. option_and_then (range_if n) (bound_of bytes high)) (bound_of bytes low)
 
-abbrev pub is_mark_open : TokenKind → Bool
-is_mark_open (Mark OpenSquare) = true
-is_mark_open _ = false
+abbrev pub opens_square : TokenKind → Bool
+opens_square (Mark OpenSquare) = true
+opens_square _ = false
 
-abbrev pub is_mark_close : TokenKind → Bool
-is_mark_close (Mark CloseSquare) = true
-is_mark_close _ = false
+abbrev pub closes_square : TokenKind → Bool
+closes_square (Mark CloseSquare) = true
+closes_square _ = false
 
 abbrev pub is_dots : TokenKind → Bool
 is_dots (Mark Dots) = true
@@ -81,9 +81,9 @@ is_dots _ = false
 abbrev pub header_of : List ℕ → List Token → Option Header
 header_of bytes (word ∷ []) = header_of_word word.kind
 header_of bytes (left ∷ n ∷ right ∷ []) =
-    if is_mark_open left.kind && is_mark_close right.kind then header_of_one bytes n n.kind else None
+    if opens_square left.kind && closes_square right.kind then header_of_one bytes n n.kind else None
 header_of bytes (left ∷ n ∷ dots ∷ m ∷ right ∷ []) =
-    if is_mark_open left.kind && is_dots dots.kind && is_mark_close right.kind then header_of_two bytes n m m.kind else None
+    if opens_square left.kind && is_dots dots.kind && closes_square right.kind then header_of_two bytes n m m.kind else None
 header_of bytes tokens = None
 
 -- ---- feature lines
@@ -112,7 +112,7 @@ open_after (suc depth) (Mark CloseSquare) = depth
 open_after (suc depth) (Mark CloseCurly) = depth
 open_after depth _ = depth
 
--- the tokens before the bracket that closes the outermost of so many open ones, if that is the last token
+-- where so many brackets are open: the tokens before the last one, if it is the one that closes them all
 abbrev pub enclosed : ℕ → List Token → Option (List Token)
 enclosed depth [] = None
 enclosed depth (token ∷ []) = if open_after depth token.kind == 0 then Some [] else None

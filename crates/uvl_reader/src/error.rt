@@ -6,20 +6,22 @@ use thiserror::Error;
 pub enum Reason {
     #[error("the bytes are not UTF-8")]
     NotUtf8,
-    #[error("no token stands here")]
+    #[error("no token may stand here")]
     BadToken,
     #[error("a bracket is not closed")]
     OpenBracket,
     #[error("a comment is not closed")]
     OpenComment,
-    /// No line before that is still open has this indentation.
+    /// It is indented no further than the last line, and no open line has its indentation; or it is the first line and is
+    /// indented.
     #[error("the indentation fits no line above")]
     BadIndent,
     #[error("the line may not stand here")]
     Misplaced,
-    /// A group line of another form, or a group without a child.
+    /// A group line that is neither a group's word nor a range, or a group without a child.
     #[error("this is no group")]
     BadGroup,
+    /// A feature line of another form, or the word `constraints` in its attributes without a list.
     #[error("this is no feature")]
     BadFeature,
     #[error("this is no formula")]
@@ -27,12 +29,12 @@ pub enum Reason {
     /// A feature is deeper than 1,000, or a formula is higher than 200.
     #[error("too deep")]
     TooDeep,
-    /// It is UVL, but not of the level that is read.
+    /// Only Boolean features and formulas over their names are read.
     #[error("not supported")]
     Unsupported,
     #[error("two features have this name")]
     Twice,
-    #[error("a formula names no feature")]
+    #[error("a name in a formula is no feature's")]
     Unknown,
     #[error("there is no feature")]
     NoFeatures,
@@ -44,7 +46,8 @@ pub enum Reason {
 /// Why there is no model.
 #[derive(Debug, Drop, Error)]
 pub enum ModelError {
-    /// The first refused line, counted from 1, and why.
+    /// The line that is refused first, counted from 1, and why. A file without a root is refused at the line of `features`,
+    /// or at 1.
     #[error("line {line}: {reason}")]
     Refused { line: u32, reason: Reason },
     #[error("out of memory")]

@@ -6,4 +6,4 @@ mod error;
 mod laws;
 
 pub use error::{ModelError, Reason};
-pub use laws::lines_above_are_indented_less;
+pub use laws::lines_above_are_the_latest;

@@ -1,6 +1,8 @@
--- Whether a logical line may stand where it stands, and if not, why. Own to this project, but for UVL's shapes.
-use Rattle.std.specs.Prelude.{ℕ, ◌+◌, ◌/◌, ◌==◌, ◌&&◌, not, nat_le, nat_lt, Bool, true, false, if◌then◌else◌, List, [], ◌∷◌, length, Option, Some, None, Ok, Err}
+-- Whether a logical line may stand where it stands, and if not, why. A fault of a line is the first that this order finds. Own
+-- to this project, but for UVL's shapes.
+use Rattle.std.specs.Prelude.{ℕ, ◌+◌, ◌/◌, ◌==◌, ◌&&◌, not, nat_le, nat_lt, Bool, false, if◌then◌else◌, List, [], ◌∷◌, length, Option, Some, None, Ok, Err}
 use Rattle.std.specs.List.{list_any, list_all}
+use Rattle.std.specs.Option.{is_none}
 use Rattle.std.specs.Str.{bytes_eq}
 use Rattle.uvl_lex.specs.declared.token.Line.{Line}
 use Rattle.uvl_lex.specs.declared.token.Token.{Token}
@@ -44,6 +46,7 @@ abbrev pub item_fault : Option (List (List Token)) → Option Reason
 item_fault None = Some reason.BadFeature
 item_fault (Some formulas) = formulas_fault formulas
 
+-- of the items of a feature's attributes, in order
 abbrev pub items_fault : List ℕ → List (List Token) → Option Reason
 items_fault bytes [] = None
 items_fault bytes (item ∷ others) = first_of (item_fault (formulas_of_item bytes item)) (items_fault bytes others)
@@ -59,7 +62,7 @@ abbrev pub comes_before : ℕ → Option Section → Bool
 comes_before place None = false
 comes_before place (Some section) = nat_lt (place_of section) place
 
--- the sections come in their order, each at most once; `features` and `constraints` stand alone on their line
+-- `imports` isn't supported; `features` and `constraints` stand alone on their line
 abbrev pub section_alone : Section → List Token → Option Reason
 section_alone NamespaceSection tokens = None
 section_alone IncludeSection tokens = None
@@ -67,6 +70,7 @@ section_alone ImportsSection tokens = Some reason.Unsupported
 section_alone FeaturesSection tokens = fault_if (not (length tokens == 1)) reason.Misplaced
 section_alone ConstraintsSection tokens = fault_if (not (length tokens == 1)) reason.Misplaced
 
+-- the sections come in their order, each at most once
 abbrev pub section_fault : List Line → Option Section → List Token → Option Reason
 section_fault before None tokens = Some reason.Misplaced
 section_fault before (Some section) tokens =
@@ -92,6 +96,7 @@ names_of bytes (last ∷ before) =
 abbrev pub depth_of : List Line → ℕ
 depth_of above = (length above + 1) / 2
 
+-- the shape, then the 65,536th feature, then a name that an earlier feature has, then the constraints among the attributes
 abbrev pub shape_fault : List ℕ → List (List ℕ) → Option FeatureShape → Option Reason
 shape_fault bytes names None = Some reason.BadFeature
 shape_fault bytes names (Some shape) =
@@ -99,6 +104,7 @@ shape_fault bytes names (Some shape) =
     (first_of (fault_if (list_any (bytes_eq (token_text bytes shape.name)) names) reason.Twice)
     (items_fault bytes (items_of shape.attributes)))
 
+-- a feature deeper than 1,000 before its shape
 abbrev pub feature_fault : List ℕ → List Line → Line → Option Reason
 feature_fault bytes before line =
     first_of (fault_if (nat_lt 1000 (depth_of (lines_above before line.indent))) reason.TooDeep)
@@ -106,10 +112,6 @@ feature_fault bytes before line =
     (shape_fault bytes (names_of bytes before) (feature_of line.tokens)))
 
 -- ---- lines
-
-abbrev pub is_none : {A : Type 0} → Option A → Bool
-is_none None = true
-is_none (Some value) = false
 
 -- what is wrong with a line of this kind that has a place; `features` has one root
 abbrev pub kind_fault : List ℕ → List Line → Line → LineKind → Option Reason
@@ -120,6 +122,7 @@ kind_fault bytes before line GroupLine = fault_if (is_none (header_of bytes line
 kind_fault bytes before line ConstraintLine = formula_fault line.tokens
 kind_fault bytes before line NoLine = Some reason.Misplaced
 
+-- the place before what the line is
 abbrev pub line_fault : List ℕ → List Line → Line → Option Reason
 line_fault bytes before line =
     first_of (fault_if (not (has_place before line.indent)) reason.BadIndent) (kind_fault bytes before line (kind_of before line))
@@ -133,20 +136,21 @@ abbrev pub refusal_at : ℕ → Option Reason → Option Refusal
 refusal_at number None = None
 refusal_at number (Some fault) = Some (record { line = number; reason = fault })
 
--- the last line is a group and has got no child so far
+-- the refusal of the last line, where it is a group: it has no child so far
 abbrev pub childless : List Line → Option Refusal
 childless [] = None
 childless (last ∷ before) = refusal_at last.number (fault_if (is_group (kind_of before last)) reason.BadGroup)
 
--- a group line whose next line isn't its child is refused with its own number, before that line is judged
+-- a group line whose next line isn't its child is refused with its own number
 abbrev pub left_childless : List Line → ℕ → Option Refusal
 left_childless [] indent = None
 left_childless (last ∷ before) indent = if nat_lt last.indent indent then None else childless (last ∷ before)
 
-abbrev pub judgement : List ℕ → List Line → Line → Option Refusal
-judgement bytes before line = first_of (left_childless before line.indent) (refusal_at line.number (line_fault bytes before line))
+-- the last line as a childless group, then the line
+abbrev pub refusal_of : List ℕ → List Line → Line → Option Refusal
+refusal_of bytes before line = first_of (left_childless before line.indent) (refusal_at line.number (line_fault bytes before line))
 
 -- the first refusal of the lines behind these, the end of the file included
 abbrev pub first_refused : List ℕ → List Line → List Line → Option Refusal
 first_refused bytes before [] = childless before
-first_refused bytes before (line ∷ lines) = first_of (judgement bytes before line) (first_refused bytes (line ∷ before) lines)
+first_refused bytes before (line ∷ lines) = first_of (refusal_of bytes before line) (first_refused bytes (line ∷ before) lines)
