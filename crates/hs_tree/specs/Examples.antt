@@ -2,7 +2,7 @@
 use Rattle.std.specs.Prelude.{◌≡◌, ℕ, Bool, true, false, List, [], ◌∷◌, refl}
 use Rattle.pref_sets.specs.Answers.{Answer, Next, told_in_turn}
 use Rattle.pref_sets.specs.Answers.Next.{Ask, Done}
-use Rattle.hs_tree.specs.Tree.{with_set, with_children, tree, found_by, next_of}
+use Rattle.hs_tree.specs.Tree.{with_children, tree, found_by, next_of}
 
 -- what the tree has been told after these answers, one after the other
 abbrev told : ℕ → List ℕ → ℕ → List Bool → List Answer
