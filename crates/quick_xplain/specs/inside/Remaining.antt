@@ -63,7 +63,7 @@ abbrev pub end_of : List Half → ℕ
 end_of [] = 0
 end_of (half ∷ halves) = half.before + half.length
 
--- each half that waits is above those behind it. No half waits since more positions were found than these
+-- each half that waits is above those behind it. When it began to wait, at most so many positions were found
 abbrev pub AreStacked : ℕ → List Half → Type 0
 AreStacked most [] = Unit {0}
 AreStacked most (half ∷ halves) =
