@@ -1,8 +1,8 @@
 -- Worked examples of the tree: which sets are asked after which answers, and what is found. Each computes.
-use Rattle.std.specs.Prelude.{◌≡◌, ℕ, Bool, true, false, List, [], ◌∷◌, refl}
+use Rattle.std.specs.Prelude.{◌≡◌, ℕ, Bool, true, false, Some, List, [], ◌∷◌, refl}
 use Rattle.pref_sets.specs.Answers.{Answer, Next, told_in_turn}
 use Rattle.pref_sets.specs.Answers.Next.{Ask, Done}
-use Rattle.hs_tree.specs.Tree.{with_children, tree, found_by, next_of}
+use Rattle.hs_tree.specs.Tree.{by_label, ends, known_label, with_children, tree, found_by, next_of}
 
 -- what the tree has been told after these answers, one after the other
 abbrev told : ℕ → List ℕ → ℕ → List Bool → List Answer
@@ -25,6 +25,15 @@ level-order = refl
 
 pub level-once : with_children (1 ∷ []) (2 ∷ 3 ∷ []) (with_children (2 ∷ []) (1 ∷ 3 ∷ []) []) ≡ (2 ∷ 3 ∷ []) ∷ (1 ∷ 3 ∷ []) ∷ (1 ∷ 2 ∷ []) ∷ []
 level-once = refl
+
+-- a label that is made stands behind the known ones, and the first that shares nothing with a set is used
+pub label-made :
+    by_label (record { found = []; known = (1 ∷ 2 ∷ []) ∷ []; next = [] }) (2 ∷ []) (Done (3 ∷ 4 ∷ []))
+    ≡ ends (record { found = []; known = (1 ∷ 2 ∷ []) ∷ (3 ∷ 4 ∷ []) ∷ []; next = (2 ∷ 4 ∷ []) ∷ (2 ∷ 3 ∷ []) ∷ [] })
+label-made = refl
+
+pub label-used : known_label ((1 ∷ 2 ∷ []) ∷ (3 ∷ 5 ∷ []) ∷ (5 ∷ 6 ∷ []) ∷ []) (1 ∷ 4 ∷ []) ≡ Some (3 ∷ 5 ∷ [])
+label-used = refl
 
 -- 1 and 2 of three don't go together
 pub phone-told : told 3 (1 ∷ 2 ∷ []) 3 (true ∷ true ∷ []) ≡ on (1 ∷ 3 ∷ []) true ∷ on (2 ∷ 3 ∷ []) true ∷ []
