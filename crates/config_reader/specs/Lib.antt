@@ -1,0 +1,7 @@
+pub mod Configuration
+pub mod Judgement
+pub mod Kinds
+pub mod Names
+pub mod Reading
+pub mod Texts
+pub mod Tiers
