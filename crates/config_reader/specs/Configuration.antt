@@ -1,5 +1,5 @@
 -- What contracts see of a configuration: its requirements and its musts, each numbered by its place in the list.
-use Rattle.std.specs.Prelude.{ℕ, ◌≤◌, List, length}
+use Rattle.std.specs.Prelude.{◌≤◌, List, [], length}
 use Rattle.config_reader.specs.declared.config.Requirement.{Requirement}
 
 pub record Configuration : Type 0 where
@@ -10,3 +10,7 @@ pub record Configuration : Type 0 where
 pub record IsWithin (requirements musts : List Requirement) : Type 0 where
   pub requirements_few : length requirements ≤ 4096
   pub musts_few : length musts ≤ 8192
+
+-- the configuration whose requirements are the musts, and that has no musts
+abbrev pub of_musts : Configuration → Configuration
+of_musts config = record { requirements = config.musts; musts = [] }

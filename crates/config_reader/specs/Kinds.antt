@@ -1,6 +1,7 @@
 -- Which version a file has, and what each of its lines is. Own to this project.
-use Rattle.std.specs.Prelude.{ℕ, ◌+◌, ◌*◌, ◌-◌, ◌==◌, nat_le, nat_eq, Bool, true, false, ◌&&◌, if◌then◌else◌, List, [], ◌∷◌, length, Option, Some, None, codes}
+use Rattle.std.specs.Prelude.{ℕ, ◌+◌, ◌*◌, ◌-◌, ◌==◌, nat_le, nat_eq, Bool, true, false, ◌&&◌, if◌then◌else◌, List, [], ◌∷◌, length, drop, Option, Some, None, codes}
 use Rattle.std.specs.Cmp.Lexicographic.{pointwise}
+use Rattle.uvl_lex.specs.declared.token.Line.{Line}
 use Rattle.uvl_lex.specs.declared.token.Mark.TheVariants.{Bang, OpenRound}
 use Rattle.uvl_lex.specs.declared.token.Token.{Token}
 use Rattle.uvl_lex.specs.declared.token.TokenKind.{TokenKind}
@@ -39,6 +40,16 @@ is_word bytes word token = is_plain token.kind && spells bytes word token
 abbrev pub is_version_line : List ℕ → List Token → Bool
 is_version_line bytes (first ∷ second ∷ []) = is_word bytes (codes "version") first && (is_number second.kind && spells bytes (codes "2") second)
 is_version_line bytes _ = false
+
+-- a file of version 2 says so in its first line
+abbrev pub version_of : List ℕ → List Line → Version
+version_of bytes [] = First
+version_of bytes (line ∷ below) = if is_version_line bytes line.tokens then Second else First
+
+-- the lines that are judged
+abbrev pub judged : Version → List Line → List Line
+judged First lines = lines
+judged Second lines = drop 1 lines
 
 -- What a line is, by its first two tokens: `tier` before a number begins a tier line, `must` before what a formula begins
 -- with a must line. Any other line is a requirement line.

@@ -1,5 +1,5 @@
 -- What a configuration file says, or its first fault. Own to this project.
-use Rattle.std.specs.Prelude.{ℕ, true, false, if◌then◌else◌, List, [], ◌∷◌, Result, Ok, Err}
+use Rattle.std.specs.Prelude.{ℕ, List, Ok, Err}
 use Rattle.feature_tree.specs.FeatureModel.{FeatureModel}
 use Rattle.uvl_lex.specs.declared.error.LexError.{LexError}
 use Rattle.uvl_lex.specs.declared.error.LexError.TheVariants as lexing
@@ -11,10 +11,9 @@ use Rattle.config_reader.specs.declared.error.ConfigError.{ConfigError}
 use Rattle.config_reader.specs.declared.error.ConfigError.TheVariants.{Refused, Memory}
 use Rattle.config_reader.specs.declared.error.Reason.{Reason}
 use Rattle.config_reader.specs.declared.error.Reason.TheVariants.{NotUtf8, BadToken, OpenBracket, OpenComment}
-use Rattle.config_reader.specs.declared.kind.Version.TheVariants.{First, Second}
 use Rattle.config_reader.specs.Configuration.{Configuration}
 use Rattle.config_reader.specs.Judgement.{OrRefused, on_ok, Standing, start, after_lines}
-use Rattle.config_reader.specs.Kinds.{is_version_line}
+use Rattle.config_reader.specs.Kinds.{version_of, judged}
 use Rattle.config_reader.specs.Names.{Numbers, names_of}
 use Rattle.config_reader.specs.Tiers.{by_tier}
 
@@ -29,12 +28,9 @@ abbrev pub fault : LexError → ConfigError
 fault (lexing.Refused line reason) = Refused line (reason_of reason)
 fault lexing.Memory = Memory
 
--- First the version: a first line `version 2` says that the lines below it are of version 2.
+-- first the version, then the lines
 unfoldable pub standing : Numbers → List ℕ → List Line → OrRefused Standing
-standing names bytes [] = Ok start
-standing names bytes (line ∷ below) =
-    if is_version_line bytes line.tokens then after_lines Second names bytes start below
-    else after_lines First names bytes start (line ∷ below)
+standing names bytes lines = after_lines (version_of bytes lines) names bytes start (judged (version_of bytes lines) lines)
 
 -- requirements are numbered by tier and place, musts by place
 abbrev pub numbered_by_tier : Standing → Configuration

@@ -6,11 +6,24 @@
 #![tactic(auto)]
 
 mod config;
+mod copies;
+mod draft;
 mod error;
+mod formula;
 mod kind;
+mod laws;
+mod names;
 mod placed;
+mod reader;
+mod slices;
+#[cfg(test)]
+mod tests;
+mod texts;
+mod tier;
 
 pub use config::{Config, Requirement, Requirements};
 pub use error::{ConfigError, Reason};
 pub use kind::{Kind, Version};
+pub use laws::readings_are_short;
 pub use placed::Placed;
+pub use reader::read_config;
