@@ -1,0 +1,5 @@
+pub mod NameMap
+pub mod TierOrder
+pub mod Requirements
+pub mod Drafts
+pub mod Files

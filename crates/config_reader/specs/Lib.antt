@@ -1,0 +1,10 @@
+pub mod Configuration
+pub mod Examples
+pub mod Judgement
+pub mod Kinds
+pub mod Laws
+pub mod Names
+pub mod Reading
+pub mod Texts
+pub mod Tiers
+pub mod inside
