@@ -1,19 +1,14 @@
 -- Worked examples: what the definition says of short files, each computed. The values were worked out by hand.
-use lib.Utf8.{encode}
 use Rattle.std.specs.Prelude.{◌≡◌, ℕ, List, [], ◌∷◌, Option, Some, None, Ok, Err, refl, codes}
-use Rattle.std.specs.Str.{is_utf8, chars}
-use Rattle.std.specs.Str.Lossy.{utf8_valid_len}
-use Rattle.unicode_ident.proofs.Computing.{unicode_ident}
 use Rattle.feature_tree.specs.declared.feature.Feature.{Feature}
 use Rattle.feature_tree.specs.declared.formula.Formula.{Formula}
 use Rattle.feature_tree.specs.declared.formula.Formula.TheVariants.{Name, All, Implies}
 use Rattle.feature_tree.specs.FeatureModel.{FeatureModel}
 use Rattle.feature_tree.specs.Folds.{folds}
-use Rattle.feature_tree.specs.FormulaAnswer.{answer_to, cut, formula_answer, parse, unary_by}
+use Rattle.feature_tree.specs.FormulaAnswerExamples.{computing as formula_computing}
 use Rattle.uvl_lex.specs.declared.token.Line.{Line}
-use Rattle.uvl_lex.specs.Pieces.{first_piece, pieces_after}
-use Rattle.uvl_lex.specs.Reading.{OrFault, reading, run_of}
-use Rattle.uvl_lex.specs.Words.{keyword_of}
+use Rattle.uvl_lex.specs.Examples.{computing as text_computing}
+use Rattle.uvl_lex.specs.Reading.{OrFault, reading}
 use Rattle.config_reader.specs.declared.config.Requirement.{Requirement}
 use Rattle.config_reader.specs.declared.error.ConfigError.TheVariants.{Refused}
 use Rattle.config_reader.specs.declared.error.Reason.TheVariants.{BadToken, Unsupported, BadFormula, Unknown, BadTier}
@@ -25,7 +20,7 @@ use Rattle.config_reader.specs.Tiers.{by_tier}
 
 -- `unfolding computing` lets `simp folds refl` compute a configuration
 unfoldable computing : Unit {0}
-unfolding configuration standing after_lines after_line requirement formula_answer answer_to parse unary_by cut reading is_utf8 chars utf8_valid_len encode run_of pieces_after first_piece keyword_of unicode_ident
+unfolding configuration standing after_lines after_line requirement formula_computing text_computing
 computing = tt
 
 abbrev feature : List ℕ → Option ℕ → Feature
