@@ -158,3 +158,26 @@ fn reads_as_many_as_there_may_be(rt: HostRuntime) -> Result<(), Fail> {
     assert_eq!(rt; counted(alloc, &over, &model)?.as_str(), refused);
     Ok(())
 }
+
+/// The configuration whose requirements are the musts of these bytes.
+fn musts_of(alloc: Global, bytes: &[u8], model: &Model) -> Result<String, Fail> {
+    let mut out = String::new(alloc);
+    if bytes.len() > 16_777_216 {
+        return Ok(out);
+    }
+    if let Ok(config) = read_config(alloc, bytes, model) {
+        if config.musts.len() <= 4_096 {
+            show_config(&mut out, &config.of_musts(alloc)?)?;
+        }
+    }
+    Ok(out)
+}
+
+#[test]
+fn musts_become_requirements(rt: HostRuntime) -> Result<(), Fail> {
+    let alloc = rt.alloc();
+    let model = model(alloc)?;
+    let found = musts_of(alloc, b"version 2\nmust A => !R\nA\nmust R", &model)?;
+    assert_eq!(rt; found.as_str(), "[A => !R (1>!0)][R 0]|");
+    Ok(())
+}
