@@ -107,6 +107,27 @@ size-one = (refl, refl)
 pub one-found : (told 1 (1 ∷ []) 1 (true ∷ []) ≡ on [] true ∷ []) × (found 1 (1 ∷ []) 1 (true ∷ []) ≡ (1 ∷ []) ∷ [])
 one-found = (refl, refl)
 
--- Unsat of the empty set makes no label
+-- after Unsat of the empty set the tree is done
 pub one-background : (wants 1 (1 ∷ []) 3 (false ∷ []) ≡ Done []) × (found 1 (1 ∷ []) 3 (false ∷ []) ≡ [])
 one-background = (refl, refl)
+
+-- what was found stays while QuickXplain asks for a label
+pub found_in_a_label : (found 3 (1 ∷ 2 ∷ []) 3 (true ∷ false ∷ []) ≡ (2 ∷ []) ∷ []) × (wants 3 (1 ∷ 2 ∷ []) 3 (true ∷ false ∷ []) ≡ Ask (2 ∷ []))
+found_in_a_label = (refl, refl)
+
+-- {1,3,4} and {2,3,4} don't go together: {3} is the second that is found, and {1,3} is skipped for it
+pub skipped_for_the_second : found 4 (1 ∷ 3 ∷ 4 ∷ []) 2 (true ∷ true ∷ false ∷ true ∷ true ∷ true ∷ true ∷ []) ≡ (4 ∷ []) ∷ (3 ∷ []) ∷ (1 ∷ 2 ∷ []) ∷ []
+skipped_for_the_second = refl
+
+-- {1,2}, {1,3} and {4} don't go together: a label that is made on one level is used on later ones, down to the third
+abbrev deep_answers : List Bool
+deep_answers = false ∷ true ∷ false ∷ true ∷ false ∷ true ∷ true ∷ false ∷ false ∷ []
+
+pub deep-told :
+    told 4 (1 ∷ 2 ∷ []) 3 deep_answers
+    ≡ on (1 ∷ 3 ∷ 4 ∷ []) false ∷ on (1 ∷ []) true ∷ on (1 ∷ 3 ∷ []) false ∷ on (3 ∷ []) true ∷ on (2 ∷ 3 ∷ 4 ∷ []) false
+    ∷ on (2 ∷ []) true ∷ on (2 ∷ 3 ∷ []) true ∷ on (2 ∷ 4 ∷ []) false ∷ on (4 ∷ []) false ∷ []
+deep-told = refl
+
+pub deep-found : (found 4 (1 ∷ 2 ∷ []) 3 deep_answers ≡ (1 ∷ 4 ∷ []) ∷ (2 ∷ 3 ∷ 4 ∷ []) ∷ []) × (found 4 (1 ∷ 2 ∷ []) 2 deep_answers ≡ (1 ∷ 4 ∷ []) ∷ [])
+deep-found = (refl, refl)

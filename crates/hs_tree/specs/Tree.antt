@@ -1,5 +1,5 @@
--- The hitting-set tree over a table of answers (after Reiter 1987): all minimal diagnoses of the positions 1, 2, .., n up
--- to a size. Which labels are used again, and in which order sets are taken, is own to this project.
+-- The hitting-set tree over a table of answers (after Reiter 1987), for minimal diagnoses of the positions 1, 2, .., n up to
+-- a size. That it goes level by level, which labels are used again, and in which order sets are taken, is own to this project.
 use Rattle.std.specs.Prelude.{ℕ, zero, suc, Bool, true, false, not, Option, Some, None, List, [], ◌∷◌, ◌++◌, fold, if◌then◌else◌}
 use Rattle.std.specs.Cmp.Lexicographic.{slice_cmp}
 use Rattle.std.specs.List.{list_any, list_all}
@@ -24,21 +24,22 @@ is_apart a b = list_all (λ position. not (has b position)) a
 abbrev pub without : ℕ → List ℕ → List ℕ
 without n set = positions_where n (λ position. not (has set position))
 
--- the set goes before the first of a level's other sets, or is that one, or goes behind it
+-- By how the first of a level's other sets compares with the set, as lists: the set goes before it, or is the same, or goes
+-- behind it.
 abbrev by_place : Ordering → List (List ℕ) → List (List ℕ) → List (List ℕ) → List (List ℕ)
 by_place Less before same behind = before
 by_place Equal before same behind = same
 by_place Greater before same behind = behind
 
--- a level and one more set of as many positions, at its place; one that is there stays once. Of two sets the one that
--- lacks the first position on which they differ comes first: the one with the greater position at the first place
--- where they differ
+-- A sorted level and one more set of as many positions, at its place; one that is there stays once. Of two ascending sets the
+-- one that lacks the first position which only one of them has comes first: the one with the greater position at the first
+-- place where their lists differ.
 abbrev pub with_set : List (List ℕ) → List ℕ → List (List ℕ)
 with_set [] set = set ∷ []
 with_set (first ∷ sets) set =
     by_place (slice_cmp nat_cmp first set) (set ∷ first ∷ sets) (first ∷ sets) (first ∷ with_set sets set)
 
--- the next level with the sets that come from one set: it and each position of its label
+-- the next level with the sets that come from one set: the set with one position of its label, for each of them
 abbrev pub with_children : List ℕ → List ℕ → List (List ℕ) → List (List ℕ)
 with_children set label next = fold (λ sets position. with_set sets (with_position position set)) next label
 
@@ -86,7 +87,7 @@ by_rest table last standing set rest None = asks standing.found rest
 by_rest table last standing set rest (Some true) = ends (with_found standing set)
 by_rest table last standing set rest (Some false) = by_conflict table last standing set rest
 
--- a known label is used; where there is none, the rest of the positions is asked
+-- a known label is used; where there is none, the answer on the rest of the positions decides
 abbrev pub by_known : ℕ → List Answer → Bool → Standing → List ℕ → Option (List ℕ) → Outcome
 by_known n table last standing set (Some label) = ends (labelled standing set label)
 by_known n table last standing set None = by_rest table last standing set (without n set) (answer_to table (without n set))
@@ -107,7 +108,7 @@ abbrev pub one_level : ℕ → List Answer → Bool → List (List ℕ) → Stan
 one_level n table last [] standing = ends standing
 one_level n table last (set ∷ sets) standing = further (one_set n table last standing set) (λ after. one_level n table last sets after)
 
--- a level, and `more` levels behind it at most. The tree ends with a level that is empty
+-- a level, and `more` levels behind it at most; an empty level ends the tree before that
 abbrev pub levels : ℕ → List Answer → ℕ → List (List ℕ) → Standing → Outcome
 levels n table zero sets standing = one_level n table true sets standing
 levels n table (suc more) [] standing = ends standing
@@ -124,7 +125,7 @@ abbrev pub found_by : Outcome → List (List ℕ)
 found_by (asks found set) = found
 found_by (ends standing) = standing.found
 
--- the set that is asked, or the empty set where all is done
+-- the set that is asked, or that all is done; the set of `Done` says nothing here
 abbrev pub next_of : Outcome → Next
 next_of (asks found set) = Ask set
 next_of (ends standing) = Done []
