@@ -13,7 +13,7 @@ use Rattle.config_reader.specs.declared.kind.Version.{Version}
 use Rattle.config_reader.specs.declared.placed.Placed.{Placed}
 use Rattle.config_reader.specs.Judgement.{OrRefused, and_then, on_ok, one_more, most, Standing, start, with_tier, with_must, with_wanted, after_kind, after_line, after_lines, IsRefusal}
 use Rattle.config_reader.specs.Kinds.{kind_in, tier_of_line, version_of, judged}
-use Rattle.config_reader.specs.Laws.{IsShort, ReadingsAreShort}
+use Rattle.config_reader.specs.inside.Drafts.{IsShort}
 use Rattle.config_reader.specs.Names.{Numbers}
 use Rattle.config_reader.specs.Reading.{standing}
 
@@ -112,7 +112,7 @@ pub standing_of_version : (names : Numbers) (bytes : List ℕ) (lines : List Lin
 unfolding standing
 standing_of_version names bytes lines version e = ap (λ (v : Version). after_lines v names bytes start (judged v lines)) e
 
-pub readings_short : ReadingsAreShort
+pub readings_short : (names : Numbers) (bytes : List ℕ) (lines : List Line) (read : Standing) → standing names bytes lines ≡ Ok read → IsShort read
 readings_short names bytes lines read e =
     let version = version_of bytes lines in
     after_lines_short names bytes version (judged version lines) start read (record { requirements = omega arith; musts = omega arith })

@@ -1,4 +1,5 @@
 pub mod NameMap
+pub mod Named
 pub mod TierOrder
 pub mod Requirements
 pub mod Drafts

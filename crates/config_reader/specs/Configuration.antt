@@ -6,7 +6,7 @@ pub record Configuration : Type 0 where
   pub requirements : List Requirement
   pub musts : List Requirement
 
--- how many there may be of each: a file gives at most half as many musts
+-- how many there may be of each; a file gives at most 4,096 musts
 pub record IsWithin (requirements musts : List Requirement) : Type 0 where
   pub requirements_few : length requirements ≤ 4096
   pub musts_few : length musts ≤ 8192

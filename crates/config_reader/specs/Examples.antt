@@ -92,7 +92,7 @@ in_two_tiers = refl
 pub in_high_tiers : by_tier (placed 12 0 ∷ placed 3 1 ∷ placed 9 2 ∷ []) ≡ wanted [] (Name 1) ∷ wanted [] (Name 2) ∷ wanted [] (Name 0) ∷ []
 in_high_tiers = refl
 
--- a must begins with what a formula begins with: this is a requirement on the feature `must`
+-- the second token may not begin a formula, so this is a requirement on the feature `must`
 pub must_joined : configuration (118 ∷ 101 ∷ 114 ∷ 115 ∷ 105 ∷ 111 ∷ 110 ∷ 32 ∷ 50 ∷ 10 ∷ 109 ∷ 117 ∷ 115 ∷ 116 ∷ 32 ∷ 38 ∷ 32 ∷ 65 ∷ []) phone ≡ Ok (record { requirements = (wanted (codes "must & A") (All (Name 3 ∷ Name 1 ∷ [])) ∷ []); musts = ([]) })
 unfolding computing
 must_joined = simp folds refl
@@ -157,7 +157,7 @@ pub tier_in_first : configuration (116 ∷ 105 ∷ 101 ∷ 114 ∷ 32 ∷ 49 ∷
 unfolding computing
 tier_in_first = refl
 
--- no feature has this name; later lines are not looked at
+-- no feature has this name; of two lines that are refused here the first decides
 pub unknown : configuration (88 ∷ 10 ∷ 49 ∷ []) phone ≡ Err (Refused 1 Unknown)
 unfolding computing
 unknown = refl
@@ -167,7 +167,7 @@ pub bad_formula : configuration (65 ∷ 32 ∷ 38 ∷ []) phone ≡ Err (Refused
 unfolding computing
 bad_formula = refl
 
--- what no formula has comes before what is no formula
+-- Unsupported comes before BadFormula
 pub unsupported_first : configuration (65 ∷ 32 ∷ 62 ∷ 32 ∷ 51 ∷ 32 ∷ 38 ∷ []) phone ≡ Err (Refused 1 Unsupported)
 unfolding computing
 unsupported_first = refl
@@ -181,3 +181,26 @@ must_bad = refl
 pub lexing_first : configuration (88 ∷ 10 ∷ 41 ∷ []) phone ≡ Err (Refused 2 BadToken)
 unfolding computing
 lexing_first = refl
+
+-- before the first tier line the tier is 1
+pub tier_before_tiers : configuration (codes "version 2\nA\ntier 1\nR") phone ≡ Ok (record { requirements = wanted (codes "A") (Name 1) ∷ wanted (codes "R") (Name 0) ∷ []; musts = [] })
+unfolding computing
+tier_before_tiers = simp folds refl
+
+-- a name in quotes begins a formula, and so a must
+pub must_of_a_quoted_name : configuration (codes "version 2\nmust \"A\"") phone ≡ Ok (record { requirements = []; musts = wanted (codes "\"A\"") (Name 1) ∷ [] })
+unfolding computing
+must_of_a_quoted_name = simp folds refl
+
+-- words in quotes are names of features
+pub words_in_quotes :
+    (configuration (codes "\"version\" 2") phone ≡ Err (Refused 1 Unsupported))
+    × (configuration (codes "version 2\n\"tier\" 0") phone ≡ Err (Refused 2 Unsupported))
+    × (configuration (codes "version 2\n\"must\" A") phone ≡ Err (Refused 2 BadFormula))
+unfolding computing
+words_in_quotes = (refl, refl, refl)
+
+-- the version's line has two tokens, and the second is 2
+pub other_versions : (configuration (codes "version 2 2") phone ≡ Err (Refused 1 Unsupported)) × (configuration (codes "version 2.0") phone ≡ Err (Refused 1 Unsupported))
+unfolding computing
+other_versions = (refl, refl)

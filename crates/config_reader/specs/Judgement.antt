@@ -1,4 +1,5 @@
--- What is read of one line, or why it is refused.
+-- What is read of one line and then of all lines, or why one is refused. A must is read as a requirement is. Own to this
+-- project.
 use Rattle.std.specs.Prelude.{◌≡◌, ℕ, nat_lt, if◌then◌else◌, List, [], ◌∷◌, ◌++◌, length, drop, Option, Some, None, Result, Ok, Err}
 use Rattle.feature_tree.specs.declared.formula.Formula.{Formula}
 use Rattle.feature_tree.specs.declared.reader.error.FormulaError.{FormulaError}
@@ -57,7 +58,8 @@ requirement names bytes line tokens = if_formula names bytes line tokens (formul
 abbrev pub most : ℕ
 most = 4096
 
--- The same, where there are so many of its kind already: one too many is refused before its formula is looked at.
+-- The requirement of a line, where there are so many of its kind already: one too many is refused before its formula is
+-- looked at.
 abbrev pub one_more : ℕ → Numbers → List ℕ → ℕ → List Token → OrRefused Requirement
 one_more count names bytes line tokens = if nat_lt count most then requirement names bytes line tokens else Err (Refused line TooMany)
 

@@ -51,8 +51,8 @@ abbrev pub judged : Version → List Line → List Line
 judged First lines = lines
 judged Second lines = drop 1 lines
 
--- What a line is, by its first two tokens: `tier` before a number begins a tier line, `must` before what a formula begins
--- with a must line. Any other line is a requirement line.
+-- What a line is, by its first two tokens: `tier` and then a number begin a tier line, `must` and then a token that may begin
+-- a formula begin a must line. Any other line is a requirement line.
 abbrev pub kind_by : List ℕ → Token → Token → Kind
 kind_by bytes first second =
     if is_word bytes (codes "tier") first && is_number second.kind then Tier
@@ -76,17 +76,17 @@ zero_digit = 48
 abbrev pub is_digit : ℕ → Bool
 is_digit byte = nat_le 48 byte && nat_le byte 57
 
--- the number that these digits write behind this number, nothing where one is no digit
+-- the number with these digits after its own, as 12 and `3` give 123; nothing where one is no digit
 abbrev pub decimal_after : ℕ → List ℕ → Option ℕ
 decimal_after number [] = Some number
 decimal_after number (digit ∷ after) = if is_digit digit then decimal_after (number * 10 + (digit - zero_digit)) after else None
 
--- the number that 1 to 4 digits write of which the first is not 0
+-- the number that 1 to 4 digits write of which the first is not 0, nothing otherwise
 abbrev pub tier_of : List ℕ → Option ℕ
 tier_of [] = None
 tier_of (first ∷ after) = if first == zero_digit then None else (if nat_le (length after) 3 then decimal_after 0 (first ∷ after) else None)
 
--- the tier that a tier line sets: it has no third token
+-- the tier that a tier line of two tokens sets, nothing otherwise
 abbrev pub tier_of_line : List ℕ → List Token → Option ℕ
 tier_of_line bytes (first ∷ second ∷ []) = tier_of (token_text bytes second)
 tier_of_line bytes _ = None

@@ -1,14 +1,25 @@
 -- What holds of what is read of every file.
-use Rattle.std.specs.Prelude.{◌≡◌, ℕ, ◌≤◌, List, length, Ok}
-use Rattle.uvl_lex.specs.declared.token.Line.{Line}
-use Rattle.config_reader.specs.Judgement.{Standing, most}
-use Rattle.config_reader.specs.Names.{Numbers}
-use Rattle.config_reader.specs.Reading.{standing}
+use Rattle.std.specs.Prelude.{◌≡◌, ℕ, ◌<◌, ◌≤◌, All, List, length, Ok}
+use Rattle.feature_tree.specs.FeatureModel.{FeatureModel}
+use Rattle.feature_tree.specs.Names.{NamesBelow}
+use Rattle.config_reader.specs.declared.config.Requirement.{Requirement}
+use Rattle.config_reader.specs.Configuration.{Configuration}
+use Rattle.config_reader.specs.Judgement.{most}
+use Rattle.config_reader.specs.Reading.{configuration}
 
--- no more requirements and no more musts than a file may have
-pub record IsShort (read : Standing) : Type 0 where
-  pub requirements : length read.placed ≤ most
-  pub musts : length read.musts ≤ most
+-- each name in the formulas is below this count
+abbrev pub AreNamed : ℕ → List Requirement → Type 0
+AreNamed count requirements = All (λ one. NamesBelow count one.formula) requirements
 
-abbrev pub ReadingsAreShort : Type 0
-ReadingsAreShort = (names : Numbers) (bytes : List ℕ) (lines : List Line) (read : Standing) → standing names bytes lines ≡ Ok read → IsShort read
+-- with the count of a model's features: each name in a formula is the number of a feature, and there are no more musts than
+-- a file may have
+pub record IsStated (count : ℕ) (config : Configuration) : Type 0 where
+  pub requirements : AreNamed count config.requirements
+  pub musts : AreNamed count config.musts
+  pub musts_few : length config.musts ≤ most
+
+-- so it is of every file, over a model with a feature
+abbrev pub ReadingsAreStated : Type 0
+ReadingsAreStated =
+    (bytes : List ℕ) (model : FeatureModel) (config : Configuration) → 0 < length model.features → configuration bytes model ≡ Ok config
+    → IsStated (length model.features) config

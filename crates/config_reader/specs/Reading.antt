@@ -1,4 +1,5 @@
--- What a configuration file says, or its first fault. Own to this project.
+-- What a configuration file says, or the fault that decides: that of its text, or else that of the first refused line. Own to
+-- this project.
 use Rattle.std.specs.Prelude.{ℕ, List, Ok, Err}
 use Rattle.feature_tree.specs.FeatureModel.{FeatureModel}
 use Rattle.uvl_lex.specs.declared.error.LexError.{LexError}

@@ -13,7 +13,7 @@ abbrev pub highest : List Placed → ℕ
 highest [] = 0
 highest (one ∷ after) = max one.tier (highest after)
 
--- the tiers up to the highest, each with its requirements
+-- the requirements of each tier, up to the highest
 abbrev pub in_order : List Placed → List Placed
 in_order placed = flat_map (of_tier placed) (range_with_len 0 (highest placed + 1))
 

@@ -1,9 +1,8 @@
 //! What has been read of a file so far.
 ghost use Rattle.std.specs.Prelude.{◌≡◌, ◌≤◌, All, IfOk, IfErr, Ok, length};
 ghost use Rattle.config_reader.specs.Judgement.{start, with_tier, with_must, with_wanted, after_line, after_lines, IsRefusal};
-ghost use Rattle.config_reader.specs.Laws.{IsShort};
 ghost use Rattle.config_reader.specs.Reading.{numbered_by_tier};
-ghost use Rattle.config_reader.specs.inside.Drafts.{standing_of};
+ghost use Rattle.config_reader.specs.inside.Drafts.{IsShort, standing_of};
 ghost use Rattle.uvl_lex.specs.Laws.{IsLine};
 
 use crate::config::{Config, Requirement, Requirements};

@@ -33,7 +33,7 @@ pub enum Reason {
 /// Why there is no configuration.
 #[derive(Debug, Drop, Error)]
 pub enum ConfigError {
-    /// The first fault of the file, with its line, counted from 1.
+    /// The fault of the text, or else of the first refused line, with its line, counted from 1.
     #[error("line {line}: {reason}")]
     Refused { line: u32, reason: Reason },
     #[error("out of memory")]

@@ -11,14 +11,14 @@ use uvl_lex::{Line, Mark, Token, TokenKind, text_of};
 pub enum Version {
     /// Every line is a requirement.
     First,
-    /// A first line says so; there are tiers and musts.
+    /// A first line says so; there may be tiers and musts.
     Second,
 }
 
 /// What a line is. It is public because the definition names it.
 #[derive(Clone, Copy, Debug, PartialEq, Eq)]
 pub enum Kind {
-    /// It sets the tier of the requirements below it.
+    /// It sets the tier of the requirements below it, up to the next such line.
     Tier,
     /// It states a must.
     Must,

@@ -1,7 +1,7 @@
 //! Laws of the definition, each as the contract of a function without a body.
-ghost use Rattle.config_reader.specs.Laws.{ReadingsAreShort};
+ghost use Rattle.config_reader.specs.Laws.{ReadingsAreStated};
 
-/// What is read of a file has at most 4,096 requirements, and at most 4,096 musts.
-pub fn readings_are_short()
-    ensures { ReadingsAreShort }
+/// Of a file over a model each name in a formula is the number of a feature, and at most 4,096 musts are read.
+pub fn readings_are_stated()
+    ensures { ReadingsAreStated }
 {}

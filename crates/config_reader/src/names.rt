@@ -11,8 +11,7 @@ use std::alloc::{AllocError, Global};
 use std::hash::{BuildHasher, DefaultHasher, Hasher};
 use std::marker::Model;
 
-/// Hashes a name behind all the names. So nobody finds names beforehand that fall together: they would have to be found
-/// for the very list that they are in.
+/// Hashes a name after all the names of the model, so that a hash depends on the whole list that the name is in.
 #[derive(Clone, Copy)]
 pub(crate) struct Seeded {
     initial: DefaultHasher,

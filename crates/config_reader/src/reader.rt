@@ -1,6 +1,7 @@
 //! From the bytes of a file to a configuration.
 ghost use Rattle.std.specs.Prelude.{◌≡◌, ◌≤◌, All, IfOk, IfErr, Ok, length};
 ghost use Rattle.config_reader.specs.Judgement.{IsRefusal};
+ghost use Rattle.config_reader.specs.Laws.{IsStated};
 ghost use Rattle.config_reader.specs.Reading.{configuration, standing, fault, reason_of};
 ghost use Rattle.config_reader.specs.inside.Drafts.{standing_of};
 ghost use Rattle.uvl_lex.specs.Laws.{IsLine};
@@ -15,11 +16,12 @@ use feature_tree::Model;
 use std::alloc::Global;
 use uvl_lex::{LexError, LexReason, Line, logical_lines};
 
-/// What the file with these bytes states over the model, or its first fault. Takes at most 16 MiB.
+/// What the file with these bytes states over the model, or the fault that decides. Takes at most 16 MiB.
 pub fn read_config(alloc: Global, bytes: &[u8], model: &Model) -> Result<Config, ConfigError>
     requires { length bytes.now ≤ 16777216 }
     ensures config { IfOk result (λ config. configuration bytes.now model.now ≡ Ok config) }
     ensures refused { IfErr result (λ e. IsRefusal e (configuration bytes.now model.now)) }
+    ensures stated { IfOk result (λ config. IsStated (length model.now.features) config) }
 {
     let lines = match logical_lines(alloc, bytes) {
         Ok(lines) => lines,

@@ -1,10 +1,11 @@
-use Rattle.std.proofs.Common.{◌∙◌, sym, ap, Ok}
+use Rattle.std.proofs.Common.{◌∙◌, ◌<◌, sym, ap, length, Ok}
 use Rattle.std.proofs.lemmas.Result.{err_from_is_err_and}
 use Rattle.feature_tree.specs.FeatureModel.{FeatureModel}
 use Rattle.config_reader.specs.Judgement.{on_ok}
 use Rattle.config_reader.specs.Reading.{numbered_by_tier}
 use Rattle.config_reader.specs.inside.Drafts.{standing_of}
 use Rattle.config_reader.proofs.Drafts.{refused_on_ok, readings_short}
+use Rattle.config_reader.proofs.Named.{readings_stated}
 use Rattle.config_reader.proofs.Files.{fault_refused, configuration_of_lines}
 use Rattle.config_reader.proofs.reader.read_config.Goals as goal
 
@@ -29,3 +30,9 @@ returns-clause-config c =
     configuration_of_lines c.args.bytes.now c.args.model.now c.in-Ok.lines c.in-Ok.ensures.lines
     ∙ ap (on_ok numbered_by_tier) read
     ∙ sym (ap Ok c.in_ok-into_config.ensures)
+
+pub returns-clause-stated : goal.returns-clause-stated
+returns-clause-stated c =
+    let features = ap (λ (model : FeatureModel). model.features) c.model.view_is in
+    let some : 0 < length c.args.model.now.features = rw (← features) c.model.invariant.tree.some in
+    readings_stated c.args.bytes.now c.args.model.now c.in_ok-into_config.field-0 some (returns-clause-config c)
