@@ -1,5 +1,5 @@
 -- The grammar of the command line (own to this project): the lists of words that a run may be started with.
-use Rattle.std.specs.Prelude.{◌≡◌, ◌↔◌, ℕ, ◌≤◌, nat_le, Bool, false, not, ◌&&◌, ◌==◌, IsTrue, List, [], ◌∷◌, length, filter_map, slice_index_or, Option, Some, None, unwrap_or, codes, if◌then◌else◌}
+use Rattle.std.specs.Prelude.{◌≡◌, ◌↔◌, ℕ, ◌≤◌, ◌^◌, nat_le, Bool, false, not, ◌&&◌, ◌==◌, IsTrue, List, [], ◌∷◌, length, filter_map, slice_index_or, Option, Some, None, unwrap_or, codes, if◌then◌else◌}
 use Rattle.std.specs.List.{flat_map, list_all}
 use Rattle.std.specs.Option.{option_map, option_and_then, is_none}
 use Rattle.std.specs.Str.{bytes_eq}
@@ -13,10 +13,18 @@ pub record Settings : Type 0 where
   -- how many more attempts may follow, each with ten times as many
   pub rungs : ℕ
 
+-- the settings that may be chosen
+pub record AreAllowed (settings : Settings) : Type 0 where
+  pub allowance : settings.allowance ≤ 2 ^ 40
+  pub rungs : settings.rungs ≤ 4
+
 -- what a command line asks for; files are named by the bytes of their names
 pub data Request : Type 0 where
   -- the advice for a configuration of a model
   Diagnose : (model config : List ℕ) (settings : Settings) → Request
+
+abbrev pub settings_in : Request → Settings
+settings_in (Diagnose model config settings) = settings
 
 -- a word that names a file: it isn't empty and doesn't begin with '-'
 abbrev pub names_a_file : List ℕ → Bool

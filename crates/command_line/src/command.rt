@@ -1,7 +1,7 @@
 //! What a command line asks for.
 ghost use Rattle.std.specs.Prelude.{◌≡◌, map, IfSome, IfNone, option_map};
 ghost use Rattle.std.specs.String.{string_bytes};
-ghost use Rattle.command_line.specs.Words.{Request, Says, names_a_file, request_of};
+ghost use Rattle.command_line.specs.Words.{AreAllowed, settings_in, Request, Says, names_a_file, request_of};
 ghost use Rattle.command_line.specs.Request.{request};
 
 use crate::options::Options;
@@ -24,13 +24,15 @@ pub fn read_words<'a>(words: &'a [String]) -> Option<Command<'a>>
     ensures said { IfSome result (λ command. Says (map string_bytes words.now) (request command)) }
     ensures unsaid { IfNone result ((asked : Request) → ¬ Says (map string_bytes words.now) asked) }
     ensures only { request_of (map string_bytes words.now) ≡ option_map request result }
+    ensures allowed { IfSome result (λ command. AreAllowed (settings_in (request command))) }
 {
     command_of(words)
 }
 
 /// The command of the words, if they are in the grammar.
 fn command_of<'a>(words: &'a [String]) -> Option<Command<'a>>
-    ensures { request_of (map string_bytes words.now) ≡ option_map request result }
+    ensures only { request_of (map string_bytes words.now) ≡ option_map request result }
+    ensures allowed { IfSome result (λ command. AreAllowed (settings_in (request command))) }
 {
     let (verb, rest) = words.split_first()?;
     let (model, rest) = rest.split_first()?;

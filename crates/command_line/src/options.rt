@@ -1,7 +1,7 @@
 //! The options of a command line, in any order and each at most once.
-ghost use Rattle.std.specs.Prelude.{◌≡◌, map, option_map, unwrap_or};
+ghost use Rattle.std.specs.Prelude.{◌≡◌, map, option_map, unwrap_or, IfSome};
 ghost use Rattle.std.specs.String.{string_bytes};
-ghost use Rattle.command_line.specs.Words.{Allowance, Rungs, chosen_with, chosen_by, chosen_from, nothing_chosen};
+ghost use Rattle.command_line.specs.Words.{AreAllowed, settings_of, Allowance, Rungs, chosen_with, chosen_by, chosen_from, nothing_chosen};
 ghost use Rattle.command_line.specs.inside.Chosen.{chosen};
 
 use crate::number::number_of;
@@ -22,7 +22,8 @@ pub struct Options {
 impl Options {
     /// What the words choose, if they are options.
     pub fn of(words: &[String]) -> Option<Options>
-        ensures { chosen_from nothing_chosen (map string_bytes words.now) ≡ option_map chosen result }
+        ensures allowed { IfSome result (λ options. AreAllowed (settings_of (chosen options))) }
+        ensures chosen { chosen_from nothing_chosen (map string_bytes words.now) ≡ option_map chosen result }
     {
         let mut options = Options {
             allowance: None,
@@ -39,7 +40,9 @@ impl Options {
 
     /// With one more option, which must be new and its value one that may be chosen.
     fn with(self, name: &str, value: &str) -> Option<Options>
-        ensures { chosen_by (chosen self) name.now value.now ≡ option_map chosen result }
+        requires { AreAllowed (settings_of (chosen self)) }
+        ensures allowed { IfSome result (λ options. AreAllowed (settings_of (chosen options))) }
+        ensures chosen { chosen_by (chosen self) name.now value.now ≡ option_map chosen result }
     {
         let number = number_of(value)?;
         if name == "--allowance" {
@@ -52,7 +55,9 @@ impl Options {
     }
 
     fn with_allowance(self, most: u64) -> Option<Options>
-        ensures { chosen_with (chosen self) (Allowance most) ≡ option_map chosen result }
+        requires { AreAllowed (settings_of (chosen self)) }
+        ensures allowed { IfSome result (λ options. AreAllowed (settings_of (chosen options))) }
+        ensures chosen { chosen_with (chosen self) (Allowance most) ≡ option_map chosen result }
     {
         if self.allowance.is_some() || most > MOST_ALLOWED {
             return None;
@@ -62,7 +67,9 @@ impl Options {
     }
 
     fn with_rungs(self, more: u64) -> Option<Options>
-        ensures { chosen_with (chosen self) (Rungs more) ≡ option_map chosen result }
+        requires { AreAllowed (settings_of (chosen self)) }
+        ensures allowed { IfSome result (λ options. AreAllowed (settings_of (chosen options))) }
+        ensures chosen { chosen_with (chosen self) (Rungs more) ≡ option_map chosen result }
     {
         if self.rungs.is_some() || more > MOST_RUNGS {
             return None;

@@ -13,5 +13,8 @@ options-preserved c =
     let all : map string_bytes c.options.rest.now ≡ name ∷ value ∷ after =
     two_more string_bytes c.options.rest.now c.in-Some.after.now c.in_ok-value.after.now c.in-Some.name.now c.in_ok-value.value.now name value
     c.in-Some.ensures.cases.0 c.in_ok-value.ensures.cases.0 c.as_str.ensures.value c.as_str-in-Some.ensures.value in
-    next (chosen c.options.options) (chosen c.in_ok-options.options) name value (map string_bytes c.options.rest.now) after
-    (chosen_from nothing_chosen (map string_bytes c.args.words.now)) all c.in_ok-options.ensures c.options.invariant
+    record {
+      allowed = c.in_ok-options.ensures.allowed;
+      chosen = next (chosen c.options.options) (chosen c.in_ok-options.options) name value (map string_bytes c.options.rest.now) after
+    (chosen_from nothing_chosen (map string_bytes c.args.words.now)) all c.in_ok-options.ensures.chosen c.options.invariant.chosen;
+    }
