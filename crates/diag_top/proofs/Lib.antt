@@ -1,7 +1,6 @@
 pub mod Texts
 pub mod Puts
-pub mod Search
-pub mod Relaxation
-pub mod LinesLemmas
-pub mod ThinTree
-pub mod Replies
+pub mod Runs
+pub mod Explaining
+pub mod RightOutcome
+pub mod MustsLemmas

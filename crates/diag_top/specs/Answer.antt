@@ -1,70 +1,90 @@
--- What a command line is answered, from the bytes of its files to the status and the text (own to this project).
-use Rattle.std.specs.Prelude.{ℕ, nat_lt, List, length, codes, Option, Some, None, if◌then◌else◌}
-use Rattle.std.specs.Option.{option_and_then}
-use Rattle.feature_tree.specs.FeatureModel.{FeatureModel}
+-- What a command line is answered, from the bytes of its files to the status and the text (own to this project). The order of
+-- work: words; model fetched; model read; configuration fetched; configuration read; clause form; checks.
+use Rattle.std.specs.Prelude.{ℕ, nat_lt, List, [], ◌∷◌, Option, Some, None, Result, Ok, Err, if◌then◌else◌}
+use Rattle.std.specs.String.{string_bytes}
+use Rattle.command_line.specs.Words.{Settings, Request, Diagnose, request_of}
+use Rattle.command_line.specs.declared.status.Status.{Status}
+use Rattle.command_line.specs.declared.status.Status.TheVariants as status
+use Rattle.clause_form.specs.ClauseForm.{needed, problem_of}
+use Rattle.config_reader.specs.Configuration.{Configuration, of_musts}
+use Rattle.config_reader.specs.Reading.{configuration}
+use Rattle.config_reader.specs.declared.config.Requirement.{Requirement}
+use Rattle.config_reader.specs.declared.error.ConfigError.{ConfigError}
 use Rattle.diag_base.specs.Shelf.{Files}
-use Rattle.diag_top.specs.declared.status.Status.{Status}
-use Rattle.diag_top.specs.declared.status.Status.TheVariants as status
-use Rattle.diag_top.specs.declared.requirement.Requirement.{Requirement}
-use Rattle.diag_top.specs.Requirements.{texts_of, formulas_of}
-use Rattle.diag_top.specs.Words.{Request, Diagnose, request_of}
-use Rattle.diag_top.specs.ThinModel.{thin_model}
-use Rattle.diag_top.specs.ThinConfig.{thin_config}
-use Rattle.diag_top.specs.Report as report
-use Rattle.diag_top.specs.Report.{line}
+use Rattle.diag_base.specs.declared.shelf.Fetched.{Fetched}
+use Rattle.diag_base.specs.declared.shelf.Fetched.TheVariants.{Whole, Longer}
+use Rattle.feature_tree.specs.FeatureModel.{FeatureModel}
+use Rattle.uvl_reader.specs.ModelReading.{model_of}
+use Rattle.uvl_reader.specs.Refusals.{Refusal}
+use Rattle.diag_top.specs.declared.job.Outcome.{Outcome}
+use Rattle.diag_top.specs.declared.job.Outcome.TheVariants as outcome
 use Rattle.diag_top.specs.Job.{outcome_of}
+use Rattle.diag_top.specs.Refusals.{words_refused, model_too_long, model_refused, config_too_long, config_refused, too_large}
+use Rattle.diag_top.specs.Report.{report}
+use Rattle.diag_top.specs.Work.{Reply, Model, Config, Work, Done, Fetch, replied}
 
 -- how many bytes a model file or a configuration may have
 abbrev pub MOST : ℕ
 MOST = 16777216
 
--- a status and the text that goes with it
-pub record Reply : Type 0 where
-  pub status : Status
-  pub text : List ℕ
+-- how many variables a problem may have
+abbrev pub MOST_VARIABLES : ℕ
+MOST_VARIABLES = 1000000
 
 -- the status of an outcome
-abbrev pub status_of : report.Outcome → Status
-status_of report.Consistent = status.Consistent
-status_of (report.Explained kept) = status.Explained
+abbrev pub status_of : Outcome → Status
+status_of outcome.Consistent = status.Consistent
+status_of outcome.Background = status.Background
+status_of (outcome.Explained kept) = status.Explained
+status_of (outcome.LimitAt part key) = status.Limit
 
--- the reply with the report on an outcome
-abbrev pub reported : FeatureModel → List Requirement → report.Outcome → Reply
-reported model requirements outcome =
-    record { status = status_of outcome; text = report.report (length model.features) (length model.constraints) (texts_of requirements) outcome }
+-- what is found out about a configuration of a model
+abbrev pub first_of : FeatureModel → Configuration → Settings → Outcome
+first_of model config settings = outcome_of (problem_of model config settings.allowance settings.rungs)
 
--- the model of a file's bytes, which is refused where it is too long
-abbrev pub model_of : List ℕ → Option FeatureModel
-model_of bytes = if nat_lt MOST (length bytes) then None else thin_model bytes
+-- Where nothing can be met and there are musts, a second job is about them: each may be given up now.
+abbrev pub second_of : FeatureModel → Configuration → Settings → Outcome → List Requirement → Option Outcome
+second_of model config settings outcome.Background (must ∷ musts) = Some (first_of model (of_musts config) settings)
+second_of model config settings _ _ = None
 
--- the requirements of a file's bytes
-abbrev pub config_of : FeatureModel → List ℕ → Option (List Requirement)
-config_of model bytes = if nat_lt MOST (length bytes) then None else thin_config model.features bytes
+abbrev pub reported : FeatureModel → Configuration → Outcome → Option Outcome → Reply
+reported model config first second = record { status = status_of first; text = report model config first second }
 
-abbrev pub words_refused : Reply
-words_refused = record { status = status.BadWords; text = line (codes "words refused") }
+-- the advice for a configuration of a model
+abbrev pub advice : FeatureModel → Configuration → Settings → Reply
+advice model config settings =
+    if nat_lt MOST_VARIABLES (needed model config) then too_large (needed model config)
+    else reported model config (first_of model config settings) (second_of model config settings (first_of model config settings) config.musts)
 
-abbrev pub model_refused : Reply
-model_refused = record { status = status.BadModel; text = line (codes "model refused") }
+-- once the configuration is read
+abbrev pub with_config : FeatureModel → Settings → Result Configuration ConfigError → Reply
+with_config model settings (Ok config) = advice model config settings
+with_config model settings (Err error) = config_refused error
 
-abbrev pub config_refused : Reply
-config_refused = record { status = status.BadConfig; text = line (codes "configuration refused") }
+-- once the configuration is fetched
+abbrev pub with_config_file : FeatureModel → Settings → Fetched → Work
+with_config_file model settings Longer = Done config_too_long
+with_config_file model settings (Whole bytes) = Done (with_config model settings (configuration bytes model))
 
--- the configuration is read after the model
-abbrev pub after_config : FeatureModel → Option (List Requirement) → Reply
-after_config model None = config_refused
-after_config model (Some requirements) = reported model requirements (outcome_of model (formulas_of requirements))
+-- once the model is read
+abbrev pub with_model : List ℕ → Settings → Result FeatureModel Refusal → Work
+with_model config settings (Ok model) = Fetch Config config MOST (with_config_file model settings)
+with_model config settings (Err refused) = Done (model_refused refused)
 
--- the configuration is fetched after the model was read
-abbrev pub after_model : Files → List ℕ → Option FeatureModel → Option Reply
-after_model files config None = Some model_refused
-after_model files config (Some model) = option_and_then (λ bytes. Some (after_config model (config_of model bytes))) (files config)
+-- once the model is fetched
+abbrev pub with_model_file : List ℕ → Settings → Fetched → Work
+with_model_file config settings Longer = Done model_too_long
+with_model_file config settings (Whole bytes) = with_model config settings (model_of bytes)
 
--- the model is fetched first
-abbrev pub after_words : Files → Option Request → Option Reply
-after_words files None = Some words_refused
-after_words files (Some (Diagnose model config)) = option_and_then (λ bytes. after_model files config (model_of bytes)) (files model)
+-- the work that is asked for
+abbrev pub work_of : Option Request → Work
+work_of None = Done words_refused
+work_of (Some (Diagnose model config settings)) = Fetch Model model MOST (with_model_file config settings)
+
+-- the work that the words ask for
+abbrev pub work_for : List (List ℕ) → Work
+work_for words = work_of (request_of words)
 
 -- The answer to a command line over these files. It is there where every file is that this order fetches.
 abbrev pub answer : List (List ℕ) → Files → Option Reply
-answer words files = after_words files (request_of words)
+answer words files = replied files (work_for words)

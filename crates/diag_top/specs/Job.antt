@@ -1,30 +1,61 @@
--- What is found out about a configuration: whether all its requirements can be met, and else the preferred relaxation.
-use Rattle.std.specs.Prelude.{ℕ, ◌-◌, Bool, ◌&&◌, List, length, slice_get, if◌then◌else◌}
-use Rattle.std.specs.List.{filter_map, range_with_len, list_all}
-use Rattle.feature_tree.specs.declared.formula.Formula.{Formula}
-use Rattle.feature_tree.specs.FeatureModel.{FeatureModel}
-use Rattle.feature_tree.specs.Decided.{is_product, is_consistent}
-use Rattle.feature_tree.specs.Truth.{truth}
-use Rattle.pref_sets.specs.Kept.{kept_of}
-use Rattle.diag_top.specs.Report.{Outcome, Consistent, Explained}
+-- What is found out about the requirements of a problem, one check after the other: all of them, none of them, and from the
+-- most important on each with those that were kept before. A check is a search, which may spend its allowance (own to this
+-- project; the kept set is the preferred relaxation of Junker 2004).
+use Rattle.std.specs.Prelude.{◌≡◌, ℕ, List, [], ◌∷◌, ◌++◌, length, unwrap_or}
+use Rattle.std.specs.List.{range_with_len}
+use Rattle.clauses.specs.Met.{AreMet}
+use Rattle.clauses.specs.Problem.{ClauseProblem}
+use Rattle.clauses.specs.Search.{verdict_on}
+use Rattle.pref_sets.specs.Kept.{IsKept, with_item}
+use Rattle.req_keys.specs.Key.{PositionSet}
+use Rattle.req_keys.specs.Wanting.{key_over}
+use Rattle.req_keys.specs.declared.verdict.Verdict.{Verdict}
+use Rattle.req_keys.specs.declared.verdict.Verdict.TheVariants as verdict
+use Rattle.diag_top.specs.declared.job.Outcome.{Outcome}
+use Rattle.diag_top.specs.declared.job.Outcome.TheVariants as outcome
+use Rattle.diag_top.specs.declared.job.Part.{Part}
+use Rattle.diag_top.specs.declared.job.Part.TheVariants as part
 
--- the formulas at these positions, which count from 1
-abbrev pub formulas_at : List Formula → List ℕ → List Formula
-formulas_at formulas positions = filter_map (λ position. slice_get formulas (position - 1)) positions
+-- these positions of the problem's requirements, which count from 1
+abbrev pub at : ClauseProblem → List ℕ → PositionSet
+at problem positions = key_over (length problem.roots) positions
 
--- whether some product meets the requirements at these positions
-abbrev pub can_meet : FeatureModel → List Formula → List ℕ → Bool
-can_meet model formulas positions = is_consistent model (formulas_at formulas positions)
-
--- whether a set of features is a product that makes the formulas true
-abbrev pub meets : FeatureModel → List Formula → List Bool → Bool
-meets model formulas set = is_product model set && list_all (truth set) formulas
+-- the verdict on the requirements at these positions; there always is one
+abbrev pub check : ClauseProblem → List ℕ → Verdict
+check problem positions = unwrap_or (verdict_on problem (at problem positions)) verdict.Limit
 
 -- the positions of all requirements, the most important first
-abbrev pub all_positions : List Formula → List ℕ
-all_positions formulas = range_with_len 1 (length formulas)
+abbrev pub all_positions : ClauseProblem → List ℕ
+all_positions problem = range_with_len 1 (length problem.roots)
 
--- the outcome: where not all requirements can be met, the kept set is the greedy one
-abbrev pub outcome_of : FeatureModel → List Formula → Outcome
-outcome_of model formulas =
-    if can_meet model formulas (all_positions formulas) then Consistent else Explained (kept_of (can_meet model formulas) (all_positions formulas))
+-- With what was kept so far, each later position joins that can be met together with it.
+abbrev pub explained : ClauseProblem → List ℕ → List ℕ → Outcome
+explained problem kept [] = outcome.Explained (at problem kept)
+explained problem kept (position ∷ later) = elim (check problem (with_item kept position)) [
+  | verdict.Sat ↦ explained problem (with_item kept position) later
+  | verdict.Unsat ↦ explained problem kept later
+  | verdict.Limit ↦ outcome.LimitAt part.Kept (at problem (with_item kept position))
+]
+
+-- where all can't be met together
+abbrev pub conflicting : ClauseProblem → Outcome
+conflicting problem = elim (check problem []) [
+  | verdict.Sat ↦ explained problem [] (all_positions problem)
+  | verdict.Unsat ↦ outcome.Background
+  | verdict.Limit ↦ outcome.LimitAt part.Background (at problem [])
+]
+
+abbrev pub outcome_of : ClauseProblem → Outcome
+outcome_of problem = elim (check problem (all_positions problem)) [
+  | verdict.Sat ↦ outcome.Consistent
+  | verdict.Unsat ↦ conflicting problem
+  | verdict.Limit ↦ outcome.LimitAt part.All (at problem (all_positions problem))
+]
+
+-- what an outcome says of the requirements that can be met together
+abbrev pub IsRight : ClauseProblem → Outcome → Type 0
+IsRight problem outcome.Consistent = AreMet problem (all_positions problem)
+IsRight problem outcome.Background = ¬ AreMet problem []
+IsRight problem (outcome.Explained kept) =
+    (¬ AreMet problem (all_positions problem)) × AreMet problem [] × IsKept (AreMet problem) (all_positions problem) kept.members
+IsRight problem (outcome.LimitAt in_part key) = check problem key.members ≡ verdict.Limit

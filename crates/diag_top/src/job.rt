@@ -1,117 +1,83 @@
-//! Deciding what can be met together, by trying every set of features.
-ghost use Rattle.std.specs.Prelude.{◌≡◌, ℕ, ◌+◌, ◌-◌, ◌^◌, ◌<◌, ◌≤◌, ◌++◌, ◌&&◌, List, Bool, length, map, take, All, IfOk};
-ghost use Rattle.std.specs.List.{list_all, list_any};
-ghost use Rattle.feature_tree.specs.Truth.{truth};
-ghost use Rattle.feature_tree.specs.Names.{NamesBelow};
-ghost use Rattle.feature_tree.specs.Decided.{is_product, is_consistent, sets};
-ghost use Rattle.pref_sets.specs.Kept.{kept_of};
-ghost use Rattle.diag_top.specs.Job.{can_meet, meets, all_positions, outcome_of};
-ghost use Rattle.diag_top.specs.Requirements.{formulas_of};
-ghost use Rattle.diag_top.specs.Told.{told};
+//! The checks of a problem, one after the other.
+ghost use Rattle.std.specs.Prelude.{◌≡◌, ◌≤◌, IfOk, length, []};
+ghost use Rattle.diag_top.specs.Job.{check, conflicting, explained, all_positions, outcome_of};
 
-use crate::requirement::Requirement;
-use feature_tree::{Formula, Model};
+use clauses::Problem;
+use req_keys::{Key, Verdict};
+use solver::{NoStop, SolveError, solve};
 use std::alloc::{AllocError, Global};
 
-/// What was found out about a configuration.
-#[derive(Debug, Drop)]
-pub enum Outcome {
-    /// One product meets all requirements.
-    Consistent,
-    /// None does. These are the positions of the preferred relaxation, ascending and counted from 1.
-    Explained(Vec<u32>),
+/// What a check belongs to.
+#[derive(Clone, Copy, Debug, PartialEq, Eq)]
+pub enum Part {
+    All,
+    Background,
+    Kept,
 }
 
-/// Whether one product meets all requirements, and else the preferred relaxation (Junker 2004). It tries every set
-/// of features.
-pub fn diagnosed(
-    alloc: Global,
-    model: &Model,
-    requirements: &[Requirement],
-) -> Result<Outcome, AllocError>
-    requires few { length requirements.now < 2 ^ 32 - 1 }
-    requires named { All (NamesBelow (length model.now.features)) (formulas_of requirements.now) }
-    ensures { IfOk result (λ outcome. told outcome ≡ outcome_of model.now (formulas_of requirements.now)) }
+/// What was found out about the requirements of a problem.
+#[derive(Drop)]
+pub enum Outcome {
+    /// All can be met together.
+    Consistent,
+    /// Nothing can be met, not even without requirements.
+    Background,
+    /// All can't; this is the preferred relaxation.
+    Explained(Key),
+    /// The check of these requirements spent its allowance.
+    LimitAt(Part, Key),
+}
+
+/// What is found out about the requirements of a problem (Junker 2004).
+pub fn outcome_of(alloc: Global, problem: &Problem) -> Result<Outcome, AllocError>
+    ensures { IfOk result (λ outcome. outcome ≡ outcome_of problem.now) }
 {
-    let mut all = Vec::new(alloc);
-    for requirement in requirements {
-        all.push(&requirement.formula)?;
+    let full = Key::full(alloc, problem.n())?;
+    match check(alloc, problem, &full)? {
+        Verdict::Sat => Ok(Outcome::Consistent),
+        Verdict::Unsat => conflicting(alloc, problem),
+        Verdict::Limit => Ok(Outcome::LimitAt(Part::All, full)),
     }
-    if are_consistent(alloc, model, all.as_slice())? {
-        return Ok(Outcome::Consistent);
+}
+
+/// What is found out where all requirements can't be met together.
+fn conflicting(alloc: Global, problem: &Problem) -> Result<Outcome, AllocError>
+    ensures { IfOk result (λ outcome. outcome ≡ conflicting problem.now) }
+{
+    let empty = Key::empty(alloc, problem.n())?;
+    match check(alloc, problem, &empty)? {
+        Verdict::Sat => explained(alloc, problem, empty),
+        Verdict::Unsat => Ok(Outcome::Background),
+        Verdict::Limit => Ok(Outcome::LimitAt(Part::Background, empty)),
     }
-    let kept = preferred_relaxation(alloc, model, requirements)?;
-    Ok(Outcome::Explained(kept))
 }
 
 /// From the most important requirement on, each joins that can be met together with those that joined before.
-fn preferred_relaxation(
-    alloc: Global,
-    model: &Model,
-    requirements: &[Requirement],
-) -> Result<Vec<u32>, AllocError>
-    requires few { length requirements.now < 2 ^ 32 - 1 }
-    requires named { All (NamesBelow (length model.now.features)) (formulas_of requirements.now) }
-    ensures { IfOk result (λ kept. kept.items ≡ kept_of (can_meet model.now (formulas_of requirements.now)) (all_positions (formulas_of requirements.now))) }
+fn explained(alloc: Global, problem: &Problem, empty: Key) -> Result<Outcome, AllocError>
+    requires n { empty.n ≡ length problem.now.roots }
+    requires empty { empty.members ≡ [] }
+    ensures { IfOk result (λ outcome. outcome ≡ explained problem.now [] (all_positions problem.now)) }
 {
-    let mut kept = Vec::new(alloc);
-    let mut chosen = Vec::new(alloc);
-    for (i, requirement) in requirements.iter().enumerate() {
-        chosen.push(&requirement.formula)?;
-        if are_consistent(alloc, model, chosen.as_slice())? {
-            kept.push(i as u32 + 1)?;
-        } else {
-            chosen.pop();
+    let mut kept = empty;
+    for i in 0..problem.n() {
+        let more = kept.with(i + 1)?;
+        match check(alloc, problem, &more)? {
+            Verdict::Sat => kept = more,
+            Verdict::Unsat => {}
+            Verdict::Limit => return Ok(Outcome::LimitAt(Part::Kept, more)),
         }
     }
-    Ok(kept)
+    Ok(Outcome::Explained(kept))
 }
 
-/// Whether some product of the model makes all these formulas true.
-fn are_consistent(alloc: Global, model: &Model, formulas: &[&Formula]) -> Result<bool, AllocError>
-    requires { All (λ formula. NamesBelow (length model.now.features) formula.now) formulas.now }
-    ensures { IfOk result (λ answer. answer ≡ is_consistent model.now (map (λ formula. formula.now) formulas.now)) }
+/// The verdict on a key.
+fn check(alloc: Global, problem: &Problem, key: &Key) -> Result<Verdict, AllocError>
+    requires { key.now.n ≡ length problem.now.roots }
+    ensures { IfOk result (λ verdict. verdict ≡ check problem.now key.now.members) }
 {
-    let mut set = vec![in alloc; false; model.features.len()]?;
-    Ok(some_product(model, formulas, set.as_mut_slice(), 0))
-}
-
-/// Whether some product has the features that were decided, those before `decided`, and makes the formulas true.
-fn some_product(model: &Model, formulas: &[&Formula], set: &mut [bool], decided: usize) -> bool
-    requires within { decided ≤ length set.old }
-    requires sized { length set.old ≡ length model.now.features }
-    requires named { All (λ formula. NamesBelow (length set.old) formula.now) formulas.now }
-    ensures found { result ≡ list_any (λ rest. meets model.now (map (λ formula. formula.now) formulas.now) (take decided set.old ++ rest)) (sets (length set.old - decided)) }
-    ensures kept { take decided set.new ≡ take decided set.old }
-{
-    if decided == set.len() {
-        return is_met(model, formulas, set);
+    match solve(alloc, problem, key, &mut NoStop) {
+        Ok(answer) => Ok(answer.verdict()),
+        // Nobody stops the search, so this is want of memory.
+        Err(SolveError::Memory | SolveError::Stopped) => Err(AllocError),
     }
-    set[decided] = true;
-    if some_product(model, formulas, set, decided + 1) {
-        return true;
-    }
-    set[decided] = false;
-    some_product(model, formulas, set, decided + 1)
-}
-
-/// Whether the set is a product that makes the formulas true.
-fn is_met(model: &Model, formulas: &[&Formula], set: &[bool]) -> bool
-    requires sized { length set.now ≡ length model.now.features }
-    requires named { All (λ formula. NamesBelow (length set.now) formula.now) formulas.now }
-    ensures { result ≡ meets model.now (map (λ formula. formula.now) formulas.now) set.now }
-{
-    model.is_product(set) && all_hold(formulas, set)
-}
-
-fn all_hold(formulas: &[&Formula], set: &[bool]) -> bool
-    requires { All (λ formula. NamesBelow (length set.now) formula.now) formulas.now }
-    ensures { result ≡ list_all (truth set.now) (map (λ formula. formula.now) formulas.now) }
-{
-    for formula in formulas {
-        if !formula.holds(set) {
-            return false;
-        }
-    }
-    true
 }

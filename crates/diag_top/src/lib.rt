@@ -1,24 +1,22 @@
 //! The commands, each from the words of its command line to the bytes that it writes and the status that it ends
-//! with. The main call is `run_alone`; its contract is what the whole program promises.
+//! with. The main call is `run_alone`; its contract is what the whole program promises. What is answered is `answer` in
+//! `specs/Answer.antt`, and how a run may end `IsRun` in `specs/Run.antt`.
 #![tactic(auto)]
 
-mod command;
-mod fetch;
+mod advice;
+mod diagnose;
 mod job;
-mod lines;
-mod reading;
+mod laws;
+mod refusal;
+mod reply;
 mod report;
-mod requirement;
 mod run;
-mod status;
-mod thin_config;
-mod thin_model;
-mod words;
 mod write;
 
-pub use command::{Command, read_words};
+pub use command_line::{Command, Status, read_words};
+pub use job::{Outcome, Part};
+pub use laws::{answers_are_no_faults, outcomes_are_right};
 pub use run::run_alone;
-pub use status::Status;
 
 #[cfg(test)]
 mod tests;

@@ -1,0 +1,6 @@
+use Rattle.std.proofs.Common.{append_assoc}
+use Rattle.diag_top.proofs.refusal.refused_model.Goals as goal
+
+pub returns : goal.returns
+returns c =
+    rw (c.in_ok-text.ensures, c.as_bytes.ensures.value, c.as_str.ensures.value, c.in_ok-line.ensures.ok, c.model_reason-reason.ensures) (simp append_assoc)

@@ -1,0 +1,6 @@
+use Rattle.std.proofs.Common.{append_assoc}
+use Rattle.diag_top.proofs.refusal.too_large.Goals as goal
+
+pub returns : goal.returns
+returns c =
+    rw (c.in_ok-text.ensures, c.as_bytes.ensures.value, c.as_str.ensures.value, c.in_ok-line.ensures.ok) (simp append_assoc)
