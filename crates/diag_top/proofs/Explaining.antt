@@ -69,18 +69,20 @@ module _ (problem : ClauseProblem) (kept more : PositionSet) (i : ℕ) (whole : 
       ∙ left
 
   pub at_sat : check problem more.members ≡ verdict.Sat → (more.n ≡ length problem.roots) × RiseWithin 0 (i + 1) more.members × (explained problem more.members (range_with_len (i + 1 + 1) (length problem.roots - (i + 1))) ≡ whole)
-  at_sat sat =
-      (ap (λ (key : PositionSet). key.n) joined,
-      subst (RiseWithin 0 (i + 1)) members (RiseWithin-append 0 i (i + 1) kept.members ((i + 1) ∷ []) rises (omega arith, omega arith, tt) (omega arith) (omega arith)),
-      ap (λ (m : List ℕ). explained problem m (range_with_len (i + 1 + 1) (length problem.roots - (i + 1)))) (sym members)
-      ∙ sym (by_sat problem kept.members (range_with_len (i + 1 + 1) (length problem.roots - (i + 1))) (i + 1) (ap (check problem) members ∙ sat))
-      ∙ left)
+  at_sat sat = (
+    ap (λ (key : PositionSet). key.n) joined,
+    subst (RiseWithin 0 (i + 1)) members (RiseWithin-append 0 i (i + 1) kept.members ((i + 1) ∷ []) rises (omega arith, omega arith, tt) (omega arith) (omega arith)),
+    ap (λ (m : List ℕ). explained problem m (range_with_len (i + 1 + 1) (length problem.roots - (i + 1)))) (sym members)
+        ∙ sym (by_sat problem kept.members (range_with_len (i + 1 + 1) (length problem.roots - (i + 1))) (i + 1) (ap (check problem) members ∙ sat))
+        ∙ left,
+  )
 
   pub at_unsat : check problem more.members ≡ verdict.Unsat → RiseWithin 0 (i + 1) kept.members × (explained problem kept.members (range_with_len (i + 1 + 1) (length problem.roots - (i + 1))) ≡ whole)
-  at_unsat unsat =
-      (RiseWithin-higher 0 i (i + 1) kept.members (omega arith) rises,
-      sym (by_unsat problem kept.members (range_with_len (i + 1 + 1) (length problem.roots - (i + 1))) (i + 1) (ap (check problem) members ∙ unsat))
-      ∙ left)
+  at_unsat unsat = (
+    RiseWithin-higher 0 i (i + 1) kept.members (omega arith) rises,
+    sym (by_unsat problem kept.members (range_with_len (i + 1 + 1) (length problem.roots - (i + 1))) (i + 1) (ap (check problem) members ∙ unsat))
+        ∙ left,
+  )
 
 -- none is left
 pub at_end : (problem : ClauseProblem) (kept : PositionSet) (i : ℕ) (whole : Outcome) → kept.n ≡ length problem.roots → length problem.roots ≤ i → explained problem kept.members (range_with_len (i + 1) (length problem.roots - i)) ≡ whole → Explained kept ≡ whole

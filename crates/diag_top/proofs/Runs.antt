@@ -57,9 +57,11 @@ pub written_part : (work : Work) (told : Option Files) (files : Files) (lost : O
     → (reply.status ≡ status.ReadFault → Rises counts.shelf_before counts.shelf_now) → Rises counts.sink_before counts.sink_now → IfSome told (λ files. Follows files lost work reply) → GainsPart reply.text old new
     → (appended : List ℕ) × (new ≡ Some (before ++ appended)) × IsRun work files lost counts status.WriteFault appended
 written_part work told files lost counts reply before old new tells has rose sank follows (taken, few, gained) =
-    let f : Follows files lost work reply = subst (λ (o : Option Files). IfSome o (λ files. Follows files lost work reply)) tells follows in
-    (take taken reply.text, gained ∙ ap (option_map (λ (w : List ℕ). w ++ take taken reply.text)) has,
-    LosesSink refl sank reply.text (taken, few, refl) (text_of work files lost counts reply rose (answered_or_lost files lost work reply f)))
+    let f : Follows files lost work reply = subst (λ (o : Option Files). IfSome o (λ files. Follows files lost work reply)) tells follows in (
+      take taken reply.text,
+      gained ∙ ap (option_map (λ (w : List ℕ). w ++ take taken reply.text)) has,
+      LosesSink refl sank reply.text (taken, few, refl) (text_of work files lost counts reply rose (answered_or_lost files lost work reply f)),
+    )
 
 -- without a fault
 complete : (work : Work) (files : Files) (lost : Option (List ℕ)) (counts : Counts) (ended : Status) (appended : List ℕ) → HasNoFault counts → IsRun work files lost counts ended appended → IsComplete work files ended appended

@@ -73,7 +73,11 @@ fn diagnose_model<F: Shelf>(
         }
         Err(FetchError::Memory) => Err(AllocError),
         Ok(Fetched::Longer) => {
-            Reply::of(alloc, Status::BadConfig, b"configuration refused too long\n")
+            Reply::of(
+                alloc,
+                Status::BadConfig,
+                b"configuration refused too long\n",
+            )
         }
         Ok(Fetched::Whole(bytes)) => diagnose_config(alloc, model, bytes, limits),
     }

@@ -4,13 +4,11 @@ ghost use Rattle.diag_top.specs.Laws.{AnswersAreNoFaults, OutcomesAreRight};
 /// An answer is never want of memory or a fault, so that the ends of a run exclude each other.
 pub fn answers_are_no_faults()
     ensures { AnswersAreNoFaults }
-{
-}
+{}
 
 /// Consistent comes only where all requirements can be met together, and Background only where the model and the musts
 /// can't. Where they are explained, the kept set is the preferred relaxation (Junker 2004) for 'can be met together'. A
 /// limit is a check whose search spent its allowance.
 pub fn outcomes_are_right()
     ensures { OutcomesAreRight }
-{
-}
+{}

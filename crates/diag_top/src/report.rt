@@ -56,11 +56,7 @@ fn push_requirements_line(
 }
 
 /// Where there are musts, appends how many.
-fn push_musts_line(
-    alloc: Global,
-    text: &mut Bytes,
-    musts: &[Requirement],
-) -> Result<(), AllocError>
+fn push_musts_line(alloc: Global, text: &mut Bytes, musts: &[Requirement]) -> Result<(), AllocError>
     ensures { OnOk result (text.new ≡ text.old ++ musts_line musts.now) }
 {
     if musts.is_empty() {

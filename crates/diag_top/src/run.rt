@@ -66,11 +66,13 @@ fn reply_to<F: Shelf>(alloc: Global, words: &[String], shelf: &mut F) -> Result<
 {
     match read_words(words) {
         None => Reply::of(alloc, Status::BadWords, b"words refused\n"),
-        Some(Command::Diagnose {
-            model,
-            config,
-            allowance,
-            rungs,
-        }) => diagnose(alloc, shelf, model, config, Limits { allowance, rungs }),
+        Some(
+            Command::Diagnose {
+                model,
+                config,
+                allowance,
+                rungs,
+            },
+        ) => diagnose(alloc, shelf, model, config, Limits { allowance, rungs }),
     }
 }

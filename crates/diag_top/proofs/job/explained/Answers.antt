@@ -1,7 +1,4 @@
-use Rattle.std.proofs.Common.{◌≡◌, ◌+◌, ◌-◌, ◌<◌, ◌≤◌, length, [], sym, ◌∙◌, ap, subst, arith}
-use Rattle.std.specs.List.{range_with_len}
-use Rattle.req_keys.specs.Key.{PositionSet}
-use Rattle.req_keys.specs.Positions.{RiseWithin}
+use Rattle.std.proofs.Common.{◌<◌, length, [], sym, ◌∙◌, arith}
 use Rattle.diag_top.specs.Job.{all_positions, explained}
 use Rattle.diag_top.proofs.Explaining.{at_limit, at_sat, at_unsat, at_end}
 use Rattle.diag_top.proofs.job.explained.Goals.{in-Sat, in-Unsat}
@@ -21,21 +18,21 @@ loop-i-preserved c =
     let below : i < length problem.roots = omega arith in
     elim c.match-branch-3.branch [
       | in-Sat w ↦
-        let next = at_sat problem c.loop-i.kept c.in_ok-more.more i whole c.loop-i.invariant.n c.loop-i.invariant.rises below c.in_ok-more.ensures c.loop-i.invariant.found (sym c.in_ok-check.ensures ∙ w.in-Sat.is) in
-        record {
-          n = rw w.kept-is next.0;
-          within = omega arith;
-          rises = rw w.kept-is next.1;
-          found = rw w.kept-is next.2;
-        }
+          let next = at_sat problem c.loop-i.kept c.in_ok-more.more i whole c.loop-i.invariant.n c.loop-i.invariant.rises below c.in_ok-more.ensures c.loop-i.invariant.found (sym c.in_ok-check.ensures ∙ w.in-Sat.is) in
+          record {
+            n = rw w.kept-is next.0;
+            within = omega arith;
+            rises = rw w.kept-is next.1;
+            found = rw w.kept-is next.2;
+          }
       | in-Unsat w ↦
-        let next = at_unsat problem c.loop-i.kept c.in_ok-more.more i whole c.loop-i.invariant.n c.loop-i.invariant.rises below c.in_ok-more.ensures c.loop-i.invariant.found (sym c.in_ok-check.ensures ∙ w.in-Unsat.is) in
-        record {
-          n = rw w.kept-is c.loop-i.invariant.n;
-          within = omega arith;
-          rises = rw w.kept-is next.0;
-          found = rw w.kept-is next.1;
-        }
+          let next = at_unsat problem c.loop-i.kept c.in_ok-more.more i whole c.loop-i.invariant.n c.loop-i.invariant.rises below c.in_ok-more.ensures c.loop-i.invariant.found (sym c.in_ok-check.ensures ∙ w.in-Unsat.is) in
+          record {
+            n = rw w.kept-is c.loop-i.invariant.n;
+            within = omega arith;
+            rises = rw w.kept-is next.0;
+            found = rw w.kept-is next.1;
+          }
     ]
 
 pub returns : goal.returns

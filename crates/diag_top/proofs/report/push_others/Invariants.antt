@@ -1,5 +1,5 @@
 -- what was put so far, and what is left
-use Rattle.std.proofs.Common.{◌≡◌, ◌++◌, drop, ◌∷◌, List, ℕ}
+use Rattle.std.proofs.Common.{◌≡◌, ◌++◌, drop, ℕ}
 use Rattle.std.specs.Prelude.{codes}
 use Rattle.std.specs.Fmt.{decimal}
 use Rattle.std.specs.List.{flat_map}
