@@ -1,0 +1,6 @@
+pub mod ClauseForm
+pub mod Examples
+pub mod Gates
+pub mod Groups
+pub mod Parts
+pub mod ProblemExamples
