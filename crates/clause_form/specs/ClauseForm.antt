@@ -4,7 +4,7 @@
 -- Its variables are first the features, by their numbers, then the variables of its parts: of each group, by feature and
 -- group, of each constraint, of each must and of each requirement. Its clauses stand in this order too, behind those of the
 -- tree.
-use Rattle.std.specs.Prelude.{ℕ, ◌+◌, ◌-◌, ◌^◌, min, List, [], ◌∷◌, ◌++◌, map, flat_map, length}
+use Rattle.std.specs.Prelude.{◌≡◌, ◌<◌, ◌≤◌, ℕ, ◌+◌, ◌-◌, ◌^◌, min, List, [], ◌∷◌, ◌++◌, map, flat_map, length}
 use Rattle.std.specs.List.{enumerate_from}
 use Rattle.std.specs.Option.{option_map_or}
 use Rattle.clauses.specs.declared.literal.Lit.{Lit}
@@ -15,7 +15,9 @@ use Rattle.config_reader.specs.Consistent.{formulas_of}
 use Rattle.feature_tree.specs.declared.feature.Feature.{Feature}
 use Rattle.feature_tree.specs.declared.formula.Formula.{Formula}
 use Rattle.feature_tree.specs.FeatureModel.{FeatureModel}
-use Rattle.clause_form.specs.Parts.{Part, Own, size, clauses, size_of, clauses_from}
+use Rattle.clause_form.specs.declared.error.BuildError.{BuildError}
+use Rattle.clause_form.specs.declared.error.BuildError.TheVariants.{TooLarge, Memory}
+use Rattle.clause_form.specs.Parts.{Part, Own, size, clauses, size_of, clauses_from, capped}
 use Rattle.clause_form.specs.Gates.{gates, literal, gates_of, literals_from}
 use Rattle.clause_form.specs.Groups.{group_part}
 
@@ -37,16 +39,12 @@ asserted formula =
     let made = gates_of formula in
     Own (size (gates made)) (λ first. clauses (gates made) first ++ unit_of (literal made first) ∷ [])
 
--- the gates of a formula alone
-abbrev pub gated : Formula → Part
-gated formula = gates (gates_of formula)
-
 -- the parts before those of the requirements
 abbrev pub asserted_parts : FeatureModel → Configuration → List Part
 asserted_parts model config = group_parts model.features ++ map asserted model.constraints ++ map asserted (formulas_of config.musts)
 
 abbrev pub parts_of : FeatureModel → Configuration → List Part
-parts_of model config = asserted_parts model config ++ map gated (formulas_of config.requirements)
+parts_of model config = asserted_parts model config ++ map gates (map gates_of (formulas_of config.requirements))
 
 -- how many variables there are
 abbrev pub variables_of : FeatureModel → Configuration → ℕ
@@ -56,9 +54,9 @@ variables_of model config = length model.features + size_of (parts_of model conf
 abbrev pub first_root : FeatureModel → Configuration → ℕ
 first_root model config = length model.features + size_of (asserted_parts model config)
 
--- the number of variables, as far as 64 bits hold it
+-- this number, as far as 64 bits hold it
 abbrev pub needed : FeatureModel → Configuration → ℕ
-needed model config = min (2 ^ 64 - 1) (variables_of model config)
+needed model config = capped (variables_of model config)
 
 -- each requirement's literal is its root, and isn't asserted
 abbrev pub problem_of : FeatureModel → Configuration → ℕ → ℕ → ClauseProblem
@@ -70,3 +68,8 @@ problem_of model config allowance rungs = record {
   allowance = allowance;
   rungs = rungs;
 }
+
+-- why there is no problem: it would need more than 1,000,000 variables, which decides first, or memory is wanted
+abbrev pub IsRefusal : BuildError → ℕ → Type 0
+IsRefusal (TooLarge count) needed = (count ≡ needed) × (1000000 < needed)
+IsRefusal Memory needed = needed ≤ 1000000

@@ -1,6 +1,6 @@
 -- A clause form is made of parts, one after the other. Each has variables of its own, which are numbered behind those of
 -- the parts before it, and clauses about them and earlier ones. Own to this project.
-use Rattle.std.specs.Prelude.{ℕ, ◌+◌, List, [], ◌∷◌, ◌++◌}
+use Rattle.std.specs.Prelude.{ℕ, ◌+◌, ◌-◌, ◌^◌, min, List, [], ◌∷◌, ◌++◌}
 use Rattle.clauses.specs.declared.literal.Lit.{Lit}
 
 -- how many variables of its own, and the clauses, where the first of them has the given number
@@ -26,3 +26,7 @@ size_of (part ∷ parts) = size part + size_of parts
 abbrev pub clauses_from : ℕ → List Part → List (List Lit)
 clauses_from first [] = []
 clauses_from first (part ∷ parts) = clauses part first ++ clauses_from (first + size part) parts
+
+-- the number, as far as 64 bits hold it
+abbrev pub capped : ℕ → ℕ
+capped count = min count (2 ^ 64 - 1)
