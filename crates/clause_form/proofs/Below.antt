@@ -1,19 +1,19 @@
 -- The clauses of a part are about the features, the variables before it and its own.
-use Rattle.std.proofs.Common.{◌≡◌, ◌∙◌, refl, ap, sym, subst, ℕ, zero, suc, ◌+◌, ◌<◌, ◌≤◌, List, [], ◌∷◌, ◌++◌, map, length, All, arith}
+use Rattle.std.proofs.Common.{sym, subst, ℕ, ◌+◌, ◌<◌, ◌≤◌, List, [], ◌∷◌, ◌++◌, map, All, arith}
 use Rattle.std.proofs.lemmas.List.Elements.{All-nil, All-cons, All-head, All-tail, All-append, All-weaker, All-map}
 use Rattle.clauses.specs.declared.literal.Lit.{Lit}
 use Rattle.clauses.specs.Clause.{negation, positive_of}
 use Rattle.clauses.specs.Problem.{IsBelow}
 use Rattle.feature_tree.specs.declared.formula.Formula.{Formula}
-use Rattle.feature_tree.specs.declared.formula.Formula.TheVariants.{Name, Not, All as AllOf, Any as AnyOf, Implies, Same, rolls-Name, rolls-Not, rolls-All, rolls-Any, rolls-Implies, rolls-Same}
+use Rattle.feature_tree.specs.declared.formula.Formula.TheVariants.{rolls-Name, rolls-Not, rolls-All, rolls-Any, rolls-Implies, rolls-Same}
 use Rattle.feature_tree.specs.declared.formula.Formula.TheOpen as node
 use Rattle.feature_tree.specs.declared.formula.Formula.TheOpen.{Formula-F}
 use Rattle.feature_tree.specs.declared.formula.Formula.TheViews.{roll-Formula}
 use Rattle.feature_tree.specs.declared.formula.Formula.TheFolds.{ind-Formula, map-Formula}
 use Rattle.feature_tree.specs.Names.{NamesBelow}
 use Rattle.feature_tree.proofs.Formulas.{NamesBelow-Name, NamesBelow-Not, NamesBelow-All, NamesBelow-Any, NamesBelow-Implies, NamesBelow-Same}
-use Rattle.clause_form.specs.Parts.{Part, Own, size, clauses, bare, size_of, clauses_from}
-use Rattle.clause_form.specs.Gates.{Gates, Made, gates, literal, literals_from, wire, negated, gate_over, gate_over_two, all_clauses, any_clauses, implies_clauses, same_clauses, gates_of}
+use Rattle.clause_form.specs.Parts.{Part, size, clauses, bare, size_of, clauses_from}
+use Rattle.clause_form.specs.Gates.{Gates, gates, literal, literals_from, wire, negated, gate_over, gate_over_two, all_clauses, any_clauses, implies_clauses, same_clauses, gates_of}
 use Rattle.clause_form.proofs.GatesLaws.{gates_of-Name, gates_of-Not, gates_of-All, gates_of-Any, gates_of-Implies, gates_of-Same}
 
 abbrev pub AreBelow : ℕ → List (List Lit) → Type 0
@@ -116,11 +116,11 @@ module _ (n : ℕ) where
   more-members one members here rest = record {
     within = more-within (gates one) (map gates members) here.within rest.within;
     literals_below =
-    λ first l.
-    let bound = first + (size (gates one) + size_of (map gates members)) in
-    let mine = here.literal_below first l in
-    All-cons (IsBelow bound) (literal one first) (literals_from (first + size (gates one)) members) (omega arith)
-    (below-more ((first + size (gates one)) + size_of (map gates members)) bound (literals_from (first + size (gates one)) members) (omega arith) (rest.literals_below (first + size (gates one)) (omega arith)));
+        λ first l.
+        let bound = first + (size (gates one) + size_of (map gates members)) in
+        let mine = here.literal_below first l in
+        All-cons (IsBelow bound) (literal one first) (literals_from (first + size (gates one)) members) (omega arith)
+        (below-more ((first + size (gates one)) + size_of (map gates members)) bound (literals_from (first + size (gates one)) members) (omega arith) (rest.literals_below (first + size (gates one)) (omega arith)));
   }
 
   pub wire-gates : (name : ℕ) → name < n → AreGates (wire (positive_of name))
@@ -135,12 +135,12 @@ module _ (n : ℕ) where
       → AreMembers members → AreGates (gate_over make members)
   over-gates make members made each = record {
     within =
-    λ first l.
-    let before = size_of (map gates members) in
-    let bound = first + (before + 1) in
-    All-append (All (IsBelow bound)) (clauses_from first (map gates members)) (make (positive_of (first + before)) (literals_from first members))
-    (are-below-more (first + before) bound (clauses_from first (map gates members)) (omega arith) (each.within first l))
-    (made bound (positive_of (first + before)) (literals_from first members) (omega arith) (below-more (first + before) bound (literals_from first members) (omega arith) (each.literals_below first l)));
+        λ first l.
+        let before = size_of (map gates members) in
+        let bound = first + (before + 1) in
+        All-append (All (IsBelow bound)) (clauses_from first (map gates members)) (make (positive_of (first + before)) (literals_from first members))
+        (are-below-more (first + before) bound (clauses_from first (map gates members)) (omega arith) (each.within first l))
+        (made bound (positive_of (first + before)) (literals_from first members) (omega arith) (below-more (first + before) bound (literals_from first members) (omega arith) (each.literals_below first l)));
     literal_below = λ first l. omega arith;
   }
 
@@ -150,17 +150,17 @@ module _ (n : ℕ) where
       → AreGates left → AreGates right → AreGates (gate_over_two make left right)
   over_two-gates make left right made l r = record {
     within =
-    λ first low.
-    let before = size (gates left) + size (gates right) in
-    let second = first + size (gates left) in
-    let bound = first + (before + 1) in
-    let a = l.literal_below first low in
-    let b = r.literal_below second (omega arith) in
-    All-append (All (IsBelow bound)) (clauses (gates left) first ++ clauses (gates right) second) (make (positive_of (first + before)) (literal left first) (literal right second))
-    (All-append (All (IsBelow bound)) (clauses (gates left) first) (clauses (gates right) second)
-    (are-below-more (first + size (gates left)) bound (clauses (gates left) first) (omega arith) (l.within first low))
-    (are-below-more (second + size (gates right)) bound (clauses (gates right) second) (omega arith) (r.within second (omega arith))))
-    (made bound (positive_of (first + before)) (literal left first) (literal right second) (omega arith) (omega arith) (omega arith));
+        λ first low.
+        let before = size (gates left) + size (gates right) in
+        let second = first + size (gates left) in
+        let bound = first + (before + 1) in
+        let a = l.literal_below first low in
+        let b = r.literal_below second (omega arith) in
+        All-append (All (IsBelow bound)) (clauses (gates left) first ++ clauses (gates right) second) (make (positive_of (first + before)) (literal left first) (literal right second))
+        (All-append (All (IsBelow bound)) (clauses (gates left) first) (clauses (gates right) second)
+        (are-below-more (first + size (gates left)) bound (clauses (gates left) first) (omega arith) (l.within first low))
+        (are-below-more (second + size (gates right)) bound (clauses (gates right) second) (omega arith) (r.within second (omega arith))))
+        (made bound (positive_of (first + before)) (literal left first) (literal right second) (omega arith) (omega arith) (omega arith));
     literal_below = λ first low. omega arith;
   }
 

@@ -1,12 +1,12 @@
 -- How many variables a clause form has, section by section.
-use Rattle.std.proofs.Common.{◌≡◌, ◌∙◌, refl, ap, sym, ℕ, ◌+◌, ◌≤◌, List, [], ◌∷◌, ◌++◌, map, length, arith}
+use Rattle.std.proofs.Common.{◌≡◌, ◌∙◌, refl, ap, ℕ, ◌+◌, ◌≤◌, List, [], ◌∷◌, ◌++◌, map, length, arith}
 use Rattle.config_reader.specs.Configuration.{Configuration}
 use Rattle.config_reader.specs.Consistent.{formulas_of}
 use Rattle.feature_tree.specs.FeatureModel.{FeatureModel}
 use Rattle.feature_tree.specs.declared.formula.Formula.{Formula}
-use Rattle.clause_form.specs.Parts.{Part, size_of}
+use Rattle.clause_form.specs.Parts.{size_of}
 use Rattle.clause_form.specs.Gates.{gates, gates_of}
-use Rattle.clause_form.specs.ClauseForm.{asserted, group_parts, asserted_parts, parts_of, first_root, variables_of, needed}
+use Rattle.clause_form.specs.ClauseForm.{asserted, group_parts, asserted_parts, first_root, variables_of, needed}
 use Rattle.clause_form.proofs.Sizes.{size_of-append}
 
 -- asserted formulas have the variables of their gates

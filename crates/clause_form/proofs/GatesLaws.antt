@@ -1,5 +1,5 @@
 -- The gates of each kind of formula.
-use Rattle.std.proofs.Common.{◌≡◌, ◌∙◌, refl, ap, sym, ℕ, ◌+◌, List, [], ◌∷◌, ◌++◌, map, arith}
+use Rattle.std.proofs.Common.{◌≡◌, ◌∙◌, refl, ap, ℕ, ◌+◌, List, [], ◌∷◌, ◌++◌, map, arith}
 use Rattle.std.proofs.lemmas.List.{append_assoc}
 use Rattle.clauses.specs.Clause.{negation, positive_of}
 use Rattle.clauses.specs.declared.literal.Lit.{Lit}

@@ -1,5 +1,5 @@
 -- Groups whose children aren't counted, and bounds that ask nothing.
-use Rattle.std.proofs.Common.{◌≡◌, ◌∙◌, refl, ap, sym, ℕ, zero, suc, ◌+◌, min, List, [], ◌∷◌, ◌++◌, map, None, Option, arith}
+use Rattle.std.proofs.Common.{◌≡◌, ◌∙◌, refl, ap, ℕ, zero, suc, ◌+◌, min, List, [], ◌∷◌, ◌++◌, map, None, arith}
 use Rattle.std.specs.Prelude.{slice_get}
 use Rattle.std.specs.List.{range_with_len}
 use Rattle.clauses.specs.declared.literal.Lit.{Lit}

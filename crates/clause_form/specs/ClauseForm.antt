@@ -4,7 +4,7 @@
 -- Its variables are first the features, by their numbers, then the variables of its parts: of each group, by feature and
 -- group, of each constraint, of each must and of each requirement. Its clauses stand in this order too, behind those of the
 -- tree.
-use Rattle.std.specs.Prelude.{◌≡◌, ◌<◌, ◌≤◌, ℕ, ◌+◌, ◌-◌, ◌^◌, min, List, [], ◌∷◌, ◌++◌, map, flat_map, length}
+use Rattle.std.specs.Prelude.{◌≡◌, ◌<◌, ◌≤◌, ℕ, ◌+◌, List, [], ◌∷◌, ◌++◌, map, flat_map, length}
 use Rattle.std.specs.List.{enumerate_from}
 use Rattle.std.specs.Option.{option_map_or}
 use Rattle.clauses.specs.declared.literal.Lit.{Lit}

@@ -38,9 +38,9 @@ config musts requirements = record { requirements = map wanted requirements; mus
 abbrev phone : FeatureModel
 phone = record {
   features =
-  feature None (group Mandatory (1 ∷ []) ∷ group Optional (4 ∷ 5 ∷ []) ∷ [])
-  ∷ feature (Some 0) (group Alternative (2 ∷ 3 ∷ []) ∷ [])
-  ∷ leaf 1 ∷ leaf 1 ∷ leaf 0 ∷ leaf 0 ∷ [];
+      feature None (group Mandatory (1 ∷ []) ∷ group Optional (4 ∷ 5 ∷ []) ∷ [])
+      ∷ feature (Some 0) (group Alternative (2 ∷ 3 ∷ []) ∷ [])
+      ∷ leaf 1 ∷ leaf 1 ∷ leaf 0 ∷ leaf 0 ∷ [];
   constraints = Implies (Name 4) (Name 3) ∷ [];
 }
 
@@ -49,16 +49,16 @@ phone-problem : problem_of phone (config [] (Name 4 ∷ Name 2 ∷ Name 5 ∷ []
   variables = 10;
   features = 6;
   clauses =
-  (yes 0 ∷ [])
-  ∷ (no 1 ∷ yes 0 ∷ []) ∷ (no 2 ∷ yes 1 ∷ []) ∷ (no 3 ∷ yes 1 ∷ []) ∷ (no 4 ∷ yes 0 ∷ []) ∷ (no 5 ∷ yes 0 ∷ [])
-  ∷ (no 0 ∷ yes 1 ∷ [])
-  ∷ (no 6 ∷ yes 2 ∷ []) ∷ (yes 6 ∷ no 2 ∷ [])
-  ∷ (no 7 ∷ yes 6 ∷ yes 3 ∷ []) ∷ (yes 7 ∷ no 6 ∷ []) ∷ (yes 7 ∷ no 3 ∷ [])
-  ∷ (no 8 ∷ yes 3 ∷ []) ∷ (no 8 ∷ yes 6 ∷ []) ∷ (yes 8 ∷ no 6 ∷ no 3 ∷ [])
-  ∷ (no 1 ∷ yes 7 ∷ []) ∷ (no 1 ∷ no 8 ∷ [])
-  ∷ (yes 9 ∷ yes 4 ∷ []) ∷ (yes 9 ∷ no 3 ∷ []) ∷ (no 9 ∷ no 4 ∷ yes 3 ∷ [])
-  ∷ (yes 9 ∷ [])
-  ∷ [];
+      (yes 0 ∷ [])
+      ∷ (no 1 ∷ yes 0 ∷ []) ∷ (no 2 ∷ yes 1 ∷ []) ∷ (no 3 ∷ yes 1 ∷ []) ∷ (no 4 ∷ yes 0 ∷ []) ∷ (no 5 ∷ yes 0 ∷ [])
+      ∷ (no 0 ∷ yes 1 ∷ [])
+      ∷ (no 6 ∷ yes 2 ∷ []) ∷ (yes 6 ∷ no 2 ∷ [])
+      ∷ (no 7 ∷ yes 6 ∷ yes 3 ∷ []) ∷ (yes 7 ∷ no 6 ∷ []) ∷ (yes 7 ∷ no 3 ∷ [])
+      ∷ (no 8 ∷ yes 3 ∷ []) ∷ (no 8 ∷ yes 6 ∷ []) ∷ (yes 8 ∷ no 6 ∷ no 3 ∷ [])
+      ∷ (no 1 ∷ yes 7 ∷ []) ∷ (no 1 ∷ no 8 ∷ [])
+      ∷ (yes 9 ∷ yes 4 ∷ []) ∷ (yes 9 ∷ no 3 ∷ []) ∷ (no 9 ∷ no 4 ∷ yes 3 ∷ [])
+      ∷ (yes 9 ∷ [])
+      ∷ [];
   roots = yes 4 ∷ yes 2 ∷ yes 5 ∷ [];
   allowance = 10000;
   rungs = 0;
@@ -70,20 +70,20 @@ phone-musts : problem_of phone (config (Any (Name 2 ∷ Name 5 ∷ []) ∷ []) (
   variables = 13;
   features = 6;
   clauses =
-  (yes 0 ∷ [])
-  ∷ (no 1 ∷ yes 0 ∷ []) ∷ (no 2 ∷ yes 1 ∷ []) ∷ (no 3 ∷ yes 1 ∷ []) ∷ (no 4 ∷ yes 0 ∷ []) ∷ (no 5 ∷ yes 0 ∷ [])
-  ∷ (no 0 ∷ yes 1 ∷ [])
-  ∷ (no 6 ∷ yes 2 ∷ []) ∷ (yes 6 ∷ no 2 ∷ [])
-  ∷ (no 7 ∷ yes 6 ∷ yes 3 ∷ []) ∷ (yes 7 ∷ no 6 ∷ []) ∷ (yes 7 ∷ no 3 ∷ [])
-  ∷ (no 8 ∷ yes 3 ∷ []) ∷ (no 8 ∷ yes 6 ∷ []) ∷ (yes 8 ∷ no 6 ∷ no 3 ∷ [])
-  ∷ (no 1 ∷ yes 7 ∷ []) ∷ (no 1 ∷ no 8 ∷ [])
-  ∷ (yes 9 ∷ yes 4 ∷ []) ∷ (yes 9 ∷ no 3 ∷ []) ∷ (no 9 ∷ no 4 ∷ yes 3 ∷ [])
-  ∷ (yes 9 ∷ [])
-  ∷ (yes 10 ∷ no 2 ∷ []) ∷ (yes 10 ∷ no 5 ∷ []) ∷ (no 10 ∷ yes 2 ∷ yes 5 ∷ [])
-  ∷ (yes 10 ∷ [])
-  ∷ (no 11 ∷ yes 4 ∷ []) ∷ (no 11 ∷ yes 5 ∷ []) ∷ (yes 11 ∷ no 4 ∷ no 5 ∷ [])
-  ∷ (no 12 ∷ yes 4 ∷ []) ∷ (no 12 ∷ yes 5 ∷ []) ∷ (yes 12 ∷ no 4 ∷ no 5 ∷ [])
-  ∷ [];
+      (yes 0 ∷ [])
+      ∷ (no 1 ∷ yes 0 ∷ []) ∷ (no 2 ∷ yes 1 ∷ []) ∷ (no 3 ∷ yes 1 ∷ []) ∷ (no 4 ∷ yes 0 ∷ []) ∷ (no 5 ∷ yes 0 ∷ [])
+      ∷ (no 0 ∷ yes 1 ∷ [])
+      ∷ (no 6 ∷ yes 2 ∷ []) ∷ (yes 6 ∷ no 2 ∷ [])
+      ∷ (no 7 ∷ yes 6 ∷ yes 3 ∷ []) ∷ (yes 7 ∷ no 6 ∷ []) ∷ (yes 7 ∷ no 3 ∷ [])
+      ∷ (no 8 ∷ yes 3 ∷ []) ∷ (no 8 ∷ yes 6 ∷ []) ∷ (yes 8 ∷ no 6 ∷ no 3 ∷ [])
+      ∷ (no 1 ∷ yes 7 ∷ []) ∷ (no 1 ∷ no 8 ∷ [])
+      ∷ (yes 9 ∷ yes 4 ∷ []) ∷ (yes 9 ∷ no 3 ∷ []) ∷ (no 9 ∷ no 4 ∷ yes 3 ∷ [])
+      ∷ (yes 9 ∷ [])
+      ∷ (yes 10 ∷ no 2 ∷ []) ∷ (yes 10 ∷ no 5 ∷ []) ∷ (no 10 ∷ yes 2 ∷ yes 5 ∷ [])
+      ∷ (yes 10 ∷ [])
+      ∷ (no 11 ∷ yes 4 ∷ []) ∷ (no 11 ∷ yes 5 ∷ []) ∷ (yes 11 ∷ no 4 ∷ no 5 ∷ [])
+      ∷ (no 12 ∷ yes 4 ∷ []) ∷ (no 12 ∷ yes 5 ∷ []) ∷ (yes 12 ∷ no 4 ∷ no 5 ∷ [])
+      ∷ [];
   roots = yes 11 ∷ no 12 ∷ [];
   allowance = 10000;
   rungs = 0;
@@ -99,20 +99,20 @@ some_of_four-problem : problem_of some_of_four (config [] (Name 1 ∷ Name 2 ∷
   variables = 15;
   features = 5;
   clauses =
-  (yes 0 ∷ [])
-  ∷ (no 1 ∷ yes 0 ∷ []) ∷ (no 2 ∷ yes 0 ∷ []) ∷ (no 3 ∷ yes 0 ∷ []) ∷ (no 4 ∷ yes 0 ∷ [])
-  ∷ (no 5 ∷ yes 1 ∷ []) ∷ (yes 5 ∷ no 1 ∷ [])
-  ∷ (no 6 ∷ yes 5 ∷ yes 2 ∷ []) ∷ (yes 6 ∷ no 5 ∷ []) ∷ (yes 6 ∷ no 2 ∷ [])
-  ∷ (no 7 ∷ yes 2 ∷ []) ∷ (no 7 ∷ yes 5 ∷ []) ∷ (yes 7 ∷ no 5 ∷ no 2 ∷ [])
-  ∷ (no 8 ∷ yes 6 ∷ yes 3 ∷ []) ∷ (yes 8 ∷ no 6 ∷ []) ∷ (yes 8 ∷ no 3 ∷ [])
-  ∷ (no 9 ∷ yes 7 ∷ yes 3 ∷ []) ∷ (no 9 ∷ yes 7 ∷ yes 6 ∷ []) ∷ (yes 9 ∷ no 7 ∷ []) ∷ (yes 9 ∷ no 6 ∷ no 3 ∷ [])
-  ∷ (no 10 ∷ yes 3 ∷ []) ∷ (no 10 ∷ yes 7 ∷ []) ∷ (yes 10 ∷ no 7 ∷ no 3 ∷ [])
-  ∷ (no 11 ∷ yes 8 ∷ yes 4 ∷ []) ∷ (yes 11 ∷ no 8 ∷ []) ∷ (yes 11 ∷ no 4 ∷ [])
-  ∷ (no 12 ∷ yes 9 ∷ yes 4 ∷ []) ∷ (no 12 ∷ yes 9 ∷ yes 8 ∷ []) ∷ (yes 12 ∷ no 9 ∷ []) ∷ (yes 12 ∷ no 8 ∷ no 4 ∷ [])
-  ∷ (no 13 ∷ yes 10 ∷ yes 4 ∷ []) ∷ (no 13 ∷ yes 10 ∷ yes 9 ∷ []) ∷ (yes 13 ∷ no 10 ∷ []) ∷ (yes 13 ∷ no 9 ∷ no 4 ∷ [])
-  ∷ (no 14 ∷ yes 4 ∷ []) ∷ (no 14 ∷ yes 10 ∷ []) ∷ (yes 14 ∷ no 10 ∷ no 4 ∷ [])
-  ∷ (no 0 ∷ yes 12 ∷ []) ∷ (no 0 ∷ no 14 ∷ [])
-  ∷ [];
+      (yes 0 ∷ [])
+      ∷ (no 1 ∷ yes 0 ∷ []) ∷ (no 2 ∷ yes 0 ∷ []) ∷ (no 3 ∷ yes 0 ∷ []) ∷ (no 4 ∷ yes 0 ∷ [])
+      ∷ (no 5 ∷ yes 1 ∷ []) ∷ (yes 5 ∷ no 1 ∷ [])
+      ∷ (no 6 ∷ yes 5 ∷ yes 2 ∷ []) ∷ (yes 6 ∷ no 5 ∷ []) ∷ (yes 6 ∷ no 2 ∷ [])
+      ∷ (no 7 ∷ yes 2 ∷ []) ∷ (no 7 ∷ yes 5 ∷ []) ∷ (yes 7 ∷ no 5 ∷ no 2 ∷ [])
+      ∷ (no 8 ∷ yes 6 ∷ yes 3 ∷ []) ∷ (yes 8 ∷ no 6 ∷ []) ∷ (yes 8 ∷ no 3 ∷ [])
+      ∷ (no 9 ∷ yes 7 ∷ yes 3 ∷ []) ∷ (no 9 ∷ yes 7 ∷ yes 6 ∷ []) ∷ (yes 9 ∷ no 7 ∷ []) ∷ (yes 9 ∷ no 6 ∷ no 3 ∷ [])
+      ∷ (no 10 ∷ yes 3 ∷ []) ∷ (no 10 ∷ yes 7 ∷ []) ∷ (yes 10 ∷ no 7 ∷ no 3 ∷ [])
+      ∷ (no 11 ∷ yes 8 ∷ yes 4 ∷ []) ∷ (yes 11 ∷ no 8 ∷ []) ∷ (yes 11 ∷ no 4 ∷ [])
+      ∷ (no 12 ∷ yes 9 ∷ yes 4 ∷ []) ∷ (no 12 ∷ yes 9 ∷ yes 8 ∷ []) ∷ (yes 12 ∷ no 9 ∷ []) ∷ (yes 12 ∷ no 8 ∷ no 4 ∷ [])
+      ∷ (no 13 ∷ yes 10 ∷ yes 4 ∷ []) ∷ (no 13 ∷ yes 10 ∷ yes 9 ∷ []) ∷ (yes 13 ∷ no 10 ∷ []) ∷ (yes 13 ∷ no 9 ∷ no 4 ∷ [])
+      ∷ (no 14 ∷ yes 4 ∷ []) ∷ (no 14 ∷ yes 10 ∷ []) ∷ (yes 14 ∷ no 10 ∷ no 4 ∷ [])
+      ∷ (no 0 ∷ yes 12 ∷ []) ∷ (no 0 ∷ no 14 ∷ [])
+      ∷ [];
   roots = yes 1 ∷ yes 2 ∷ yes 3 ∷ yes 4 ∷ [];
   allowance = 10000;
   rungs = 0;
@@ -129,10 +129,10 @@ options-problem : problem_of (options (Any (Name 1 ∷ Name 2 ∷ []) ∷ Any (N
   variables = 5;
   features = 3;
   clauses =
-  (yes 0 ∷ []) ∷ (no 1 ∷ yes 0 ∷ []) ∷ (no 2 ∷ yes 0 ∷ [])
-  ∷ (yes 3 ∷ no 1 ∷ []) ∷ (yes 3 ∷ no 2 ∷ []) ∷ (no 3 ∷ yes 1 ∷ yes 2 ∷ []) ∷ (yes 3 ∷ [])
-  ∷ (yes 4 ∷ no 1 ∷ []) ∷ (yes 4 ∷ yes 2 ∷ []) ∷ (no 4 ∷ yes 1 ∷ no 2 ∷ []) ∷ (yes 4 ∷ [])
-  ∷ [];
+      (yes 0 ∷ []) ∷ (no 1 ∷ yes 0 ∷ []) ∷ (no 2 ∷ yes 0 ∷ [])
+      ∷ (yes 3 ∷ no 1 ∷ []) ∷ (yes 3 ∷ no 2 ∷ []) ∷ (no 3 ∷ yes 1 ∷ yes 2 ∷ []) ∷ (yes 3 ∷ [])
+      ∷ (yes 4 ∷ no 1 ∷ []) ∷ (yes 4 ∷ yes 2 ∷ []) ∷ (no 4 ∷ yes 1 ∷ no 2 ∷ []) ∷ (yes 4 ∷ [])
+      ∷ [];
   roots = [];
   allowance = 0;
   rungs = 0;
@@ -144,19 +144,19 @@ four_constraints-problem :
     problem_of
     (options (Any (Name 1 ∷ Name 2 ∷ []) ∷ Any (Name 1 ∷ Not (Name 2) ∷ []) ∷ Any (Not (Name 1) ∷ Name 2 ∷ []) ∷ Any (Not (Name 1) ∷ Not (Name 2) ∷ []) ∷ []))
     (config [] []) 1 4 ≡ record {
-  variables = 7;
-  features = 3;
-  clauses =
-  (yes 0 ∷ []) ∷ (no 1 ∷ yes 0 ∷ []) ∷ (no 2 ∷ yes 0 ∷ [])
-  ∷ (yes 3 ∷ no 1 ∷ []) ∷ (yes 3 ∷ no 2 ∷ []) ∷ (no 3 ∷ yes 1 ∷ yes 2 ∷ []) ∷ (yes 3 ∷ [])
-  ∷ (yes 4 ∷ no 1 ∷ []) ∷ (yes 4 ∷ yes 2 ∷ []) ∷ (no 4 ∷ yes 1 ∷ no 2 ∷ []) ∷ (yes 4 ∷ [])
-  ∷ (yes 5 ∷ yes 1 ∷ []) ∷ (yes 5 ∷ no 2 ∷ []) ∷ (no 5 ∷ no 1 ∷ yes 2 ∷ []) ∷ (yes 5 ∷ [])
-  ∷ (yes 6 ∷ yes 1 ∷ []) ∷ (yes 6 ∷ yes 2 ∷ []) ∷ (no 6 ∷ no 1 ∷ no 2 ∷ []) ∷ (yes 6 ∷ [])
-  ∷ [];
-  roots = [];
-  allowance = 1;
-  rungs = 4;
-}
+      variables = 7;
+      features = 3;
+      clauses =
+          (yes 0 ∷ []) ∷ (no 1 ∷ yes 0 ∷ []) ∷ (no 2 ∷ yes 0 ∷ [])
+          ∷ (yes 3 ∷ no 1 ∷ []) ∷ (yes 3 ∷ no 2 ∷ []) ∷ (no 3 ∷ yes 1 ∷ yes 2 ∷ []) ∷ (yes 3 ∷ [])
+          ∷ (yes 4 ∷ no 1 ∷ []) ∷ (yes 4 ∷ yes 2 ∷ []) ∷ (no 4 ∷ yes 1 ∷ no 2 ∷ []) ∷ (yes 4 ∷ [])
+          ∷ (yes 5 ∷ yes 1 ∷ []) ∷ (yes 5 ∷ no 2 ∷ []) ∷ (no 5 ∷ no 1 ∷ yes 2 ∷ []) ∷ (yes 5 ∷ [])
+          ∷ (yes 6 ∷ yes 1 ∷ []) ∷ (yes 6 ∷ yes 2 ∷ []) ∷ (no 6 ∷ no 1 ∷ no 2 ∷ []) ∷ (yes 6 ∷ [])
+          ∷ [];
+      roots = [];
+      allowance = 1;
+      rungs = 4;
+    }
 four_constraints-problem = simp folds refl
 
 -- ---- how many variables
@@ -164,9 +164,6 @@ four_constraints-problem = simp folds refl
 -- of the children from 1 on, so many, as a range
 abbrev wide : ℕ → ℕ → Option ℕ → FeatureModel
 wide children low high = record { features = feature None (range low high (range_with_len 1 children) ∷ []) ∷ map (λ child. leaf 0) (range_with_len 1 children); constraints = [] }
-
-
-
 
 -- 1,000 of 2,000: 2,001 features, and those that count up to 1,001
 wide-needed : needed (wide 2000 1000 (Some 1000)) (config [] []) ≡ 1503501

@@ -85,12 +85,7 @@ fn literal_at(row: &Lits, j: u32) -> Option<Lit>
 }
 
 /// That the parent has at least `low` of them.
-fn add_low(
-    out: &mut ClauseBuilder,
-    parent: u32,
-    row: &Lits,
-    low: u32,
-) -> Result<(), AllocError>
+fn add_low(out: &mut ClauseBuilder, parent: u32, row: &Lits, low: u32) -> Result<(), AllocError>
     ensures clauses { OnOk result (out.new.clauses ≡ out.old.clauses ++ under parent (at_least row.now low)) }
     ensures variable { out.new.next_variable ≡ out.old.next_variable }
 {

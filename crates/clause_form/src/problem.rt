@@ -90,11 +90,7 @@ fn add_features(
 }
 
 /// A formula that is asserted.
-fn add_asserted(
-    alloc: Global,
-    out: &mut ClauseBuilder,
-    formula: &Formula,
-) -> Result<(), AllocError>
+fn add_asserted(alloc: Global, out: &mut ClauseBuilder, formula: &Formula) -> Result<(), AllocError>
     requires { out.old.next_variable + size (asserted formula.now) ≤ 1000000 }
     ensures clauses { OnOk result (out.new.clauses ≡ out.old.clauses ++ clauses (asserted formula.now) out.old.next_variable) }
     ensures variable { OnOk result (out.new.next_variable ≡ out.old.next_variable + size (asserted formula.now)) }

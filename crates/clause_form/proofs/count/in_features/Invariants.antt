@@ -1,4 +1,4 @@
-use Rattle.std.proofs.Common.{◌≡◌, ◌+◌, ◌-◌, ◌^◌, ◌≤◌, ℕ, drop}
+use Rattle.std.proofs.Common.{◌≡◌, ◌+◌, ◌-◌, ◌^◌, ◌≤◌, drop}
 use Rattle.clause_form.specs.ClauseForm.{group_parts}
 use Rattle.clause_form.proofs.Walks.{groups_from}
 use Rattle.clause_form.specs.Parts.{capped, size_of}

@@ -1,4 +1,4 @@
-use Rattle.std.proofs.Common.{rules, sym, subst, ap, ◌∙◌, ◌≡◌, All, map}
+use Rattle.std.proofs.Common.{rules, sym, subst, ◌≡◌, All, map}
 use Rattle.std.proofs.lemmas.List.Elements.{All-map}
 use Rattle.clauses.specs.Clause.{positive_of}
 use Rattle.clauses.specs.Problem.{IsBelow}

@@ -1,5 +1,4 @@
-use Rattle.std.proofs.Common.{◌≡◌, ◌∙◌, ap, sym, subst, ◌+◌, ◌≤◌, ◌++◌, map, drop, List, arith}
-use Rattle.feature_tree.specs.declared.feature.Feature.{Feature}
+use Rattle.std.proofs.Common.{◌≡◌, ◌∙◌, ap, ◌+◌, ◌++◌, map, drop, List, arith}
 use Rattle.clause_form.specs.Groups.{group_part}
 use Rattle.clause_form.specs.Parts.{Part, clauses_from, size_of}
 use Rattle.clause_form.proofs.Sizes.{drop-one, walk-clauses, walk-size}
