@@ -65,7 +65,7 @@ module _ (values : List Bool) where
   or_pair false true b = refl
   or_pair false false b = refl
 
-  pairs-truth : (a : Lit) (f : Lit → Lit) (literals : List Lit) → are_satisfied values (map (λ one. a ∷ f one ∷ []) literals) ≡ (is_true_in values a || list_all (λ one. is_true_in values (f one)) literals)
+  pub pairs-truth : (a : Lit) (f : Lit → Lit) (literals : List Lit) → are_satisfied values (map (λ one. a ∷ f one ∷ []) literals) ≡ (is_true_in values a || list_all (λ one. is_true_in values (f one)) literals)
   pairs-truth a f [] = or_true (is_true_in values a)
   pairs-truth a f (one ∷ literals) =
       ap (λ rest. (T a || (T (f one) || false)) && rest) (pairs-truth a f literals) ∙ or_pair (T a) (T (f one)) (list_all (λ o. T (f o)) literals)

@@ -6,6 +6,7 @@ pub mod GatesLaws
 pub mod GatesMeaning
 pub mod GroupsBelow
 pub mod GroupsLaws
+pub mod GroupsMeaning
 pub mod Meaning
 pub mod ProblemLaws
 pub mod Sizes
