@@ -65,10 +65,10 @@ module _ (n : ℕ) where
     pub parts : Means n (joined (map gates members)) (λ values. true)
     pub says : (first : ℕ) → n ≤ first → (values : List Bool) → AreTrue values (clauses_from first (map gates members)) → map (is_true_in values) (literals_from first members) ≡ ts values
 
-  no-members-mean : MembersMean [] (λ values. [])
+  pub no-members-mean : MembersMean [] (λ values. [])
   no-members-mean = record { are = no-members n; parts = means-none n; says = λ first l values e. refl }
 
-  more-members-mean : (one : Gates) (members : List Gates) (t : List Bool → Bool) (ts : List Bool → List Bool) → GatesMean one t → MembersMean members ts → MembersMean (one ∷ members) (λ values. t values ∷ ts values)
+  pub more-members-mean : (one : Gates) (members : List Gates) (t : List Bool → Bool) (ts : List Bool → List Bool) → GatesMean one t → MembersMean members ts → MembersMean (one ∷ members) (λ values. t values ∷ ts values)
   more-members-mean one members t ts here rest = record {
     are = more-members n one members here.are rest.are;
     parts = means-more n (gates one) (map gates members) (λ values. true) (λ values. true) here.part rest.parts;

@@ -11,3 +11,4 @@ pub mod Meaning
 pub mod ProblemLaws
 pub mod Sizes
 pub mod Walks
+pub mod WholeMeaning

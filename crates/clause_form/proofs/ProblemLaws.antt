@@ -20,6 +20,7 @@ use Rattle.feature_tree.proofs.Products.{features_are_within}
 use Rattle.clause_form.specs.Parts.{Part, size, clauses, size_of, clauses_from}
 use Rattle.clause_form.specs.Gates.{gates, literal, gates_of, literals_from}
 use Rattle.clause_form.specs.ClauseForm.{tree_clauses, group_parts, asserted, asserted_parts, parts_of, first_root, variables_of, problem_of}
+use Rattle.clause_form.specs.Laws.{IsStatedOf}
 use Rattle.clause_form.proofs.Below.{AreBelow, below-more, are-below-more, one-in, two-in, IsWithin, all-within, formula-gates, formulas-gates}
 use Rattle.clause_form.proofs.ClauseFormLaws.{variables_of-size}
 use Rattle.clause_form.proofs.GroupsBelow.{EachIn, groups-within, tree-below}
@@ -90,11 +91,6 @@ module _ (n : ℕ) where
   formulas-named requirements named = All-map (NamesBelow n) (λ one. one.formula) requirements named
 
 -- ---- the whole
-
-pub record IsStatedOf (model : FeatureModel) (config : Configuration) : Type 0 where
-  pub formed : IsWellFormed model.features model.constraints
-  pub requirements : AreNamed (length model.features) config.requirements
-  pub musts : AreNamed (length model.features) config.musts
 
 module _ (model : FeatureModel) (config : Configuration) (stated : IsStatedOf model config) where
   pub features-in : EachIn (length model.features) 0 model.features

@@ -9,7 +9,8 @@ use Rattle.clause_form.specs.ClauseForm.{asserted, asserted_parts, group_parts, 
 use Rattle.clause_form.specs.Gates.{gates, gates_of, literals_from}
 use Rattle.clause_form.specs.Parts.{clauses_from, size_of}
 use Rattle.clause_form.proofs.ClauseFormLaws.{few_variables, variables_of-sections, asserted-size}
-use Rattle.clause_form.proofs.ProblemLaws.{IsMade, made-more, IsStatedOf, is-problem, problem-is}
+use Rattle.clause_form.proofs.ProblemLaws.{IsMade, made-more, is-problem, problem-is}
+use Rattle.clause_form.specs.Laws.{IsStatedOf}
 use Rattle.clause_form.proofs.problem.problem_of.Goals as goal
 
 pub add_features-requires-clause-room : goal.add_features-requires-clause-room
