@@ -1,5 +1,5 @@
 -- Values for some more variables, and how many lists of them satisfy clauses.
-use Rattle.std.proofs.Common.{◌≡◌, ◌∙◌, refl, ap, sym, subst, ℕ, zero, suc, ◌+◌, ◌<◌, ◌≤◌, Bool, true, false, ◌&&◌, List, [], ◌∷◌, ◌++◌, length, take, drop, get_or, arith}
+use Rattle.std.proofs.Common.{◌≡◌, ◌∙◌, refl, ap, sym, subst, ℕ, ◌+◌, ◌≤◌, Bool, true, List, [], ◌∷◌, ◌++◌, length, take, drop, arith}
 use Rattle.std.proofs.lemmas.Bool.{and_parts, and_from}
 use Rattle.std.proofs.lemmas.List.{append_assoc, append-nil, length-append, length-take-le, length-drop, take-append-drop, nil_from_length}
 use Rattle.std.proofs.lemmas.List.Folds.{list_all-append}
@@ -63,20 +63,20 @@ one-then before a b first second below one two =
       new = one.new ++ two.new;
       sized = let both = length-append one.new two.new in omega arith;
       true_there =
-      ap (λ values. are_satisfied values (first ++ second)) join
-      ∙ true-both ((before ++ one.new) ++ two.new) first second (true-more (before ++ one.new) two.new first here_below ∙ one.true_there) two.true_there;
+          ap (λ values. are_satisfied values (first ++ second)) join
+          ∙ true-both ((before ++ one.new) ++ two.new) first second (true-more (before ++ one.new) two.new first here_below ∙ one.true_there) two.true_there;
       only = λ other sized x.
-      let parts : take a other ++ drop a other ≡ other = take-append-drop a other in
-      let enough : a ≤ length other = omega arith in
-      let taken : length (take a other) ≡ a = length-take-le a other enough in
-      let dropped = length-drop a other in
-      let split : before ++ other ≡ (before ++ take a other) ++ drop a other = ap (λ rest. before ++ rest) (sym parts) ∙ sym (append_assoc before (take a other) (drop a other)) in
-      let both = true-parts ((before ++ take a other) ++ drop a other) first second (ap (λ values. are_satisfied values (first ++ second)) (sym split) ∙ x) in
-      let there_size = length-append before (take a other) in
-      let there_below : AreBelow (length (before ++ take a other)) first = subst (λ k. AreBelow k first) (ap (λ k. length before + k) (sym taken) ∙ sym there_size) below in
-      let same : take a other ≡ one.new = one.only (take a other) taken (sym (true-more (before ++ take a other) (drop a other) first there_below) ∙ both.0) in
-      let rest : drop a other ≡ two.new = two.only (drop a other) (omega arith) (ap (λ front. are_satisfied ((before ++ front) ++ drop a other) second) (sym same) ∙ both.1) in
-      sym parts ∙ ap (λ front. front ++ drop a other) same ∙ ap (λ back. one.new ++ back) rest;
+          let parts : take a other ++ drop a other ≡ other = take-append-drop a other in
+          let enough : a ≤ length other = omega arith in
+          let taken : length (take a other) ≡ a = length-take-le a other enough in
+          let dropped = length-drop a other in
+          let split : before ++ other ≡ (before ++ take a other) ++ drop a other = ap (λ rest. before ++ rest) (sym parts) ∙ sym (append_assoc before (take a other) (drop a other)) in
+          let both = true-parts ((before ++ take a other) ++ drop a other) first second (ap (λ values. are_satisfied values (first ++ second)) (sym split) ∙ x) in
+          let there_size = length-append before (take a other) in
+          let there_below : AreBelow (length (before ++ take a other)) first = subst (λ k. AreBelow k first) (ap (λ k. length before + k) (sym taken) ∙ sym there_size) below in
+          let same : take a other ≡ one.new = one.only (take a other) taken (sym (true-more (before ++ take a other) (drop a other) first there_below) ∙ both.0) in
+          let rest : drop a other ≡ two.new = two.only (drop a other) (omega arith) (ap (λ front. are_satisfied ((before ++ front) ++ drop a other) second) (sym same) ∙ both.1) in
+          sym parts ∙ ap (λ front. front ++ drop a other) same ∙ ap (λ back. one.new ++ back) rest;
     }
 
 -- a variable of its own that has one value

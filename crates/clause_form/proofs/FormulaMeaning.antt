@@ -1,13 +1,13 @@
 -- What the gates of a formula mean: its literal is true exactly where the formula is, and the gates leave the features free.
-use Rattle.std.proofs.Common.{◌≡◌, ◌∙◌, refl, ap, sym, subst, ℕ, zero, suc, ◌+◌, ◌<◌, ◌≤◌, Bool, true, false, cond, not, ◌&&◌, ◌||◌, List, [], ◌∷◌, ◌++◌, map, length, get_or, All, arith}
+use Rattle.std.proofs.Common.{◌≡◌, ◌∙◌, refl, ap, sym, subst, ℕ, ◌+◌, ◌<◌, ◌≤◌, Bool, true, false, cond, not, ◌&&◌, ◌||◌, List, [], ◌∷◌, ◌++◌, map, length, All, arith}
 use Rattle.std.specs.List.{list_all, list_any}
 use Rattle.std.proofs.lemmas.Option.{unwrap_or-slice_get}
 use Rattle.std.proofs.lemmas.List.{length-append, get_or_append_left}
-use Rattle.std.proofs.lemmas.List.Elements.{All-nil, All-cons, All-head, All-tail, All-append, All-weaker}
+use Rattle.std.proofs.lemmas.List.Elements.{All-nil, All-head, All-tail, All-append, All-weaker}
 use Rattle.std.proofs.lemmas.List.Folds.{list_all-map}
 use Rattle.lists.proofs.Appends.{list_any-map}
 use Rattle.clauses.specs.declared.literal.Lit.{Lit}
-use Rattle.clauses.specs.Clause.{is_true_in, are_satisfied, negation, positive_of, unit_of}
+use Rattle.clauses.specs.Clause.{is_true_in, are_satisfied, positive_of, unit_of}
 use Rattle.clauses.specs.Problem.{IsBelow}
 use Rattle.feature_tree.specs.declared.formula.Formula.{Formula}
 use Rattle.feature_tree.specs.declared.formula.Formula.TheVariants.{Name, Not, All as AllOf, Any as AnyOf, Implies, Same, rolls-Name, rolls-Not, rolls-All, rolls-Any, rolls-Implies, rolls-Same}
@@ -18,7 +18,7 @@ use Rattle.feature_tree.specs.declared.formula.Formula.TheFolds.{ind-Formula, ma
 use Rattle.feature_tree.specs.Names.{names, NamesBelow}
 use Rattle.feature_tree.specs.Truth.{is_in, agree, truth}
 use Rattle.feature_tree.proofs.Formulas.{truth-Name, truth-Not, truth-All, truth-Any, truth-Implies, truth-Same, truth_of_names, NamesBelow-Name, NamesBelow-Not, NamesBelow-All, NamesBelow-Any, NamesBelow-Implies, NamesBelow-Same}
-use Rattle.clause_form.specs.Parts.{Part, Own, size, clauses, bare, size_of, clauses_from}
+use Rattle.clause_form.specs.Parts.{size, clauses, size_of, clauses_from}
 use Rattle.clause_form.specs.Gates.{Gates, gates, literal, literals_from, wire, negated, gate_over, gate_over_two, all_clauses, any_clauses, implies_clauses, same_clauses, gates_of}
 use Rattle.clause_form.specs.ClauseForm.{asserted}
 use Rattle.clause_form.proofs.GatesLaws.{gates_of-Name, gates_of-Not, gates_of-All, gates_of-Any, gates_of-Implies, gates_of-Same}
@@ -73,9 +73,9 @@ module _ (n : ℕ) where
     are = more-members n one members here.are rest.are;
     parts = means-more n (gates one) (map gates members) (λ values. true) (λ values. true) here.part rest.parts;
     says = λ first l values e.
-    let both = true-parts values (clauses (gates one) first) (clauses_from (first + size (gates one)) (map gates members)) e in
-    ap (λ b. b ∷ map (is_true_in values) (literals_from (first + size (gates one)) members)) (here.says first l values both.0)
-    ∙ ap (λ bs. t values ∷ bs) (rest.says (first + size (gates one)) (omega arith) values both.1);
+        let both = true-parts values (clauses (gates one) first) (clauses_from (first + size (gates one)) (map gates members)) e in
+        ap (λ b. b ∷ map (is_true_in values) (literals_from (first + size (gates one)) members)) (here.says first l values both.0)
+        ∙ ap (λ bs. t values ∷ bs) (rest.says (first + size (gates one)) (omega arith) values both.1);
   }
 
   wire-mean : (name : ℕ) → name < n → GatesMean (wire (positive_of name)) (λ values. is_true_in values (positive_of name))
@@ -101,25 +101,25 @@ module _ (n : ℕ) where
           rests = λ values more l. refl;
           says = λ first l values e. refl;
           one = λ before l e.
-          let count = size_of (map gates members) in
-          let mine = each.parts.one before l refl in
-          let longer = before ++ mine.new in
-          let whole = length-append before mine.new in
-          let mine_size : length mine.new ≡ size_of (map gates members) = mine.sized in
-          let place : length (before ++ mine.new) ≡ length before + size_of (map gates members) = omega arith in
-          let literals = literals_from (length before) members in
-          let below : All (IsBelow (length longer)) literals = subst (λ k. All (IsBelow k) literals) (sym place) (each.are.literals_below (length before) l) in
-          one-then before count 1 (clauses_from (length before) (map gates members)) (make (positive_of (length before + count)) literals) (each.parts.within (length before) l) mine
-          (subst (λ k. HasOne longer 1 (make (positive_of k) literals)) place
-          (gate-one longer (make (positive_of (length longer)) literals) (λ values. h (map (is_true_in values) literals)) (λ values. truths values (positive_of (length longer)) literals)
-          (λ value. ap h (literals-more longer (value ∷ []) literals below))));
+              let count = size_of (map gates members) in
+              let mine = each.parts.one before l refl in
+              let longer = before ++ mine.new in
+              let whole = length-append before mine.new in
+              let mine_size : length mine.new ≡ size_of (map gates members) = mine.sized in
+              let place : length (before ++ mine.new) ≡ length before + size_of (map gates members) = omega arith in
+              let literals = literals_from (length before) members in
+              let below : All (IsBelow (length longer)) literals = subst (λ k. All (IsBelow k) literals) (sym place) (each.are.literals_below (length before) l) in
+              one-then before count 1 (clauses_from (length before) (map gates members)) (make (positive_of (length before + count)) literals) (each.parts.within (length before) l) mine
+              (subst (λ k. HasOne longer 1 (make (positive_of k) literals)) place
+              (gate-one longer (make (positive_of (length longer)) literals) (λ values. h (map (is_true_in values) literals)) (λ values. truths values (positive_of (length longer)) literals)
+              (λ value. ap h (literals-more longer (value ∷ []) literals below))));
         };
         says = λ first l values e.
-        let count = size_of (map gates members) in
-        let literals = literals_from first members in
-        let both = true-parts values (clauses_from first (map gates members)) (make (positive_of (first + count)) literals) e in
-        gate-fixed [] (is_true_in values (positive_of (first + count))) (h (map (is_true_in values) literals)) (sym (truths values (positive_of (first + count)) literals) ∙ both.1)
-        ∙ ap h (each.says first l values both.0);
+            let count = size_of (map gates members) in
+            let literals = literals_from first members in
+            let both = true-parts values (clauses_from first (map gates members)) (make (positive_of (first + count)) literals) e in
+            gate-fixed [] (is_true_in values (positive_of (first + count))) (h (map (is_true_in values) literals)) (sym (truths values (positive_of (first + count)) literals) ∙ both.1)
+            ∙ ap h (each.says first l values both.0);
       }
 
   over_two-mean :
@@ -135,44 +135,44 @@ module _ (n : ℕ) where
           rests = λ values more low. refl;
           says = λ first low values e. refl;
           one = λ before low e.
-          let first = length before in
-          let second = length before + size (gates left) in
-          let third = length before + (size (gates left) + size (gates right)) in
-          let a = literal left (length before) in
-          let b = literal right (length before + size (gates left)) in
-          let one = l.part.one before low refl in
-          let one_whole = length-append before one.new in
-          let one_size : length one.new ≡ size (gates left) = one.sized in
-          let one_place : length (before ++ one.new) ≡ length before + size (gates left) = omega arith in
-          let two = r.part.one (before ++ one.new) (omega arith) refl in
-          let two_there : HasOne (before ++ one.new) (size (gates right)) (clauses (gates right) second) = subst (λ k. HasOne (before ++ one.new) (size (gates right)) (clauses (gates right) k)) one_place two in
-          let mine = one-then before (size (gates left)) (size (gates right)) (clauses (gates left) first) (clauses (gates right) second) (l.part.within first low) one two_there in
-          let longer = before ++ mine.new in
-          let whole = length-append before mine.new in
-          let mine_size : length mine.new ≡ size (gates left) + size (gates right) = mine.sized in
-          let place : length (before ++ mine.new) ≡ length before + (size (gates left) + size (gates right)) = omega arith in
-          let a_low = l.are.literal_below (length before) low in
-          let b_low = r.are.literal_below (length before + size (gates left)) (omega arith) in
-          let a_below : IsBelow (length (before ++ mine.new)) a = omega arith in
-          let b_below : IsBelow (length (before ++ mine.new)) b = omega arith in
-          let bound = length before + (size (gates left) + size (gates right)) in
-          one-then before (size (gates left) + size (gates right)) 1 (clauses (gates left) first ++ clauses (gates right) second) (make (positive_of third) a b)
-          (All-append (All (IsBelow bound)) (clauses (gates left) first) (clauses (gates right) second)
-          (are-below-more (first + size (gates left)) bound (clauses (gates left) first) (omega arith) (l.part.within first low))
-          (are-below-more (second + size (gates right)) bound (clauses (gates right) second) (omega arith) (r.part.within second (omega arith))))
-          mine
-          (subst (λ k. HasOne longer 1 (make (positive_of k) a b)) place
-          (gate-one longer (make (positive_of (length longer)) a b) (λ values. h (is_true_in values a) (is_true_in values b)) (λ values. truths values (positive_of (length longer)) a b)
-          (λ value. ap (λ x. h x (is_true_in (longer ++ value ∷ []) b)) (literal-more longer (value ∷ []) a a_below) ∙ ap (λ y. h (is_true_in longer a) y) (literal-more longer (value ∷ []) b b_below))));
+              let first = length before in
+              let second = length before + size (gates left) in
+              let third = length before + (size (gates left) + size (gates right)) in
+              let a = literal left (length before) in
+              let b = literal right (length before + size (gates left)) in
+              let one = l.part.one before low refl in
+              let one_whole = length-append before one.new in
+              let one_size : length one.new ≡ size (gates left) = one.sized in
+              let one_place : length (before ++ one.new) ≡ length before + size (gates left) = omega arith in
+              let two = r.part.one (before ++ one.new) (omega arith) refl in
+              let two_there : HasOne (before ++ one.new) (size (gates right)) (clauses (gates right) second) = subst (λ k. HasOne (before ++ one.new) (size (gates right)) (clauses (gates right) k)) one_place two in
+              let mine = one-then before (size (gates left)) (size (gates right)) (clauses (gates left) first) (clauses (gates right) second) (l.part.within first low) one two_there in
+              let longer = before ++ mine.new in
+              let whole = length-append before mine.new in
+              let mine_size : length mine.new ≡ size (gates left) + size (gates right) = mine.sized in
+              let place : length (before ++ mine.new) ≡ length before + (size (gates left) + size (gates right)) = omega arith in
+              let a_low = l.are.literal_below (length before) low in
+              let b_low = r.are.literal_below (length before + size (gates left)) (omega arith) in
+              let a_below : IsBelow (length (before ++ mine.new)) a = omega arith in
+              let b_below : IsBelow (length (before ++ mine.new)) b = omega arith in
+              let bound = length before + (size (gates left) + size (gates right)) in
+              one-then before (size (gates left) + size (gates right)) 1 (clauses (gates left) first ++ clauses (gates right) second) (make (positive_of third) a b)
+              (All-append (All (IsBelow bound)) (clauses (gates left) first) (clauses (gates right) second)
+              (are-below-more (first + size (gates left)) bound (clauses (gates left) first) (omega arith) (l.part.within first low))
+              (are-below-more (second + size (gates right)) bound (clauses (gates right) second) (omega arith) (r.part.within second (omega arith))))
+              mine
+              (subst (λ k. HasOne longer 1 (make (positive_of k) a b)) place
+              (gate-one longer (make (positive_of (length longer)) a b) (λ values. h (is_true_in values a) (is_true_in values b)) (λ values. truths values (positive_of (length longer)) a b)
+              (λ value. ap (λ x. h x (is_true_in (longer ++ value ∷ []) b)) (literal-more longer (value ∷ []) a a_below) ∙ ap (λ y. h (is_true_in longer a) y) (literal-more longer (value ∷ []) b b_below))));
         };
         says = λ first low values e.
-        let second = first + size (gates left) in
-        let third = first + (size (gates left) + size (gates right)) in
-        let outer = true-parts values (clauses (gates left) first ++ clauses (gates right) second) (make (positive_of third) (literal left first) (literal right second)) e in
-        let both = true-parts values (clauses (gates left) first) (clauses (gates right) second) outer.0 in
-        gate-fixed [] (is_true_in values (positive_of third)) (h (is_true_in values (literal left first)) (is_true_in values (literal right second))) (sym (truths values (positive_of third) (literal left first) (literal right second)) ∙ outer.1)
-        ∙ ap (λ x. h x (is_true_in values (literal right second))) (l.says first low values both.0)
-        ∙ ap (λ y. h (t values) y) (r.says second (omega arith) values both.1);
+            let second = first + size (gates left) in
+            let third = first + (size (gates left) + size (gates right)) in
+            let outer = true-parts values (clauses (gates left) first ++ clauses (gates right) second) (make (positive_of third) (literal left first) (literal right second)) e in
+            let both = true-parts values (clauses (gates left) first) (clauses (gates right) second) outer.0 in
+            gate-fixed [] (is_true_in values (positive_of third)) (h (is_true_in values (literal left first)) (is_true_in values (literal right second))) (sym (truths values (positive_of third) (literal left first) (literal right second)) ∙ outer.1)
+            ∙ ap (λ x. h x (is_true_in values (literal right second))) (l.says first low values both.0)
+            ∙ ap (λ y. h (t values) y) (r.says second (omega arith) values both.1);
       }
 
   mean-same : (one : Gates) (t u : List Bool → Bool) → ((values : List Bool) → t values ≡ u values) → GatesMean one t → GatesMean one u
@@ -252,10 +252,10 @@ module _ (n : ℕ) where
         within = asserted-within n formula named;
         rests = truth-rests formula named;
         says = λ first l values e.
-        let both = true-parts values (clauses (gates (gates_of formula)) first) (unit_of (literal (gates_of formula) first) ∷ []) e in
-        sym (made.says first l values both.0) ∙ unit-true values (literal (gates_of formula) first) both.1;
+            let both = true-parts values (clauses (gates (gates_of formula)) first) (unit_of (literal (gates_of formula) first) ∷ []) e in
+            sym (made.says first l values both.0) ∙ unit-true values (literal (gates_of formula) first) both.1;
         one = λ before l e.
-        let mine = made.part.one before l refl in
-        one-also before (size (gates (gates_of formula))) (clauses (gates (gates_of formula)) (length before)) (unit_of (literal (gates_of formula) (length before)) ∷ []) mine
-        (true-unit (before ++ mine.new) (literal (gates_of formula) (length before)) (made.says (length before) l (before ++ mine.new) mine.true_there ∙ truth-rests formula named before mine.new l ∙ e));
+            let mine = made.part.one before l refl in
+            one-also before (size (gates (gates_of formula))) (clauses (gates (gates_of formula)) (length before)) (unit_of (literal (gates_of formula) (length before)) ∷ []) mine
+            (true-unit (before ++ mine.new) (literal (gates_of formula) (length before)) (made.says (length before) l (before ++ mine.new) mine.true_there ∙ truth-rests formula named before mine.new l ∙ e));
       }

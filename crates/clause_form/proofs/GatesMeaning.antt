@@ -1,30 +1,15 @@
 -- What the gates of a formula mean: its literal is true exactly where the formula is, and the gates leave the features free.
-use Rattle.std.proofs.Common.{◌≡◌, ◌∙◌, refl, ap, sym, subst, ℕ, zero, suc, ◌+◌, ◌<◌, ◌≤◌, Bool, true, false, cond, not, ◌&&◌, ◌||◌, List, [], ◌∷◌, ◌++◌, map, length, get_or, All, arith}
+use Rattle.std.proofs.Common.{◌≡◌, ◌∙◌, refl, ap, sym, ◌+◌, Bool, true, false, cond, not, ◌&&◌, ◌||◌, List, [], ◌∷◌, ◌++◌, map, length, get_or, All, arith}
 use Rattle.std.specs.List.{list_all, list_any}
 use Rattle.std.proofs.lemmas.Bool.{false≢true}
-use Rattle.std.proofs.lemmas.Option.{unwrap_or-slice_get}
-use Rattle.std.proofs.lemmas.List.{length-append, get_or_append_left, get_or-append-add}
-use Rattle.std.proofs.lemmas.List.Elements.{All-nil, All-cons, All-head, All-tail, All-weaker}
-use Rattle.std.proofs.lemmas.List.Folds.{list_all-append, list_all-map}
-use Rattle.lists.proofs.Appends.{list_any-map}
+use Rattle.std.proofs.lemmas.List.{get_or_append_left, get_or-append-add}
+use Rattle.std.proofs.lemmas.List.Elements.{All-head, All-tail}
+use Rattle.std.proofs.lemmas.List.Folds.{list_all-append}
 use Rattle.clauses.specs.declared.literal.Lit.{Lit}
 use Rattle.clauses.specs.Clause.{is_true_in, is_satisfied, are_satisfied, negation, positive_of}
 use Rattle.clauses.specs.Problem.{IsBelow}
-use Rattle.feature_tree.specs.declared.formula.Formula.{Formula}
-use Rattle.feature_tree.specs.declared.formula.Formula.TheVariants.{Name, Not, All as AllOf, Any as AnyOf, Implies, Same, rolls-Name, rolls-Not, rolls-All, rolls-Any, rolls-Implies, rolls-Same}
-use Rattle.feature_tree.specs.declared.formula.Formula.TheOpen as node
-use Rattle.feature_tree.specs.declared.formula.Formula.TheOpen.{Formula-F}
-use Rattle.feature_tree.specs.declared.formula.Formula.TheViews.{roll-Formula}
-use Rattle.feature_tree.specs.declared.formula.Formula.TheFolds.{ind-Formula, map-Formula}
-use Rattle.feature_tree.specs.Names.{names, NamesBelow}
-use Rattle.feature_tree.specs.Truth.{is_in, agree, truth}
-use Rattle.feature_tree.proofs.Formulas.{truth-Name, truth-Not, truth-All, truth-Any, truth-Implies, truth-Same, truth_of_names, NamesBelow-Name, NamesBelow-Not, NamesBelow-All, NamesBelow-Any, NamesBelow-Implies, NamesBelow-Same}
-use Rattle.clause_form.specs.Parts.{Part, Own, size, clauses, bare, size_of, clauses_from}
-use Rattle.clause_form.specs.Gates.{Gates, gates, literal, literals_from, wire, negated, gate_over, gate_over_two, all_clauses, any_clauses, implies_clauses, same_clauses, gates_of}
-use Rattle.clause_form.proofs.GatesLaws.{gates_of-Name, gates_of-Not, gates_of-All, gates_of-Any, gates_of-Implies, gates_of-Same}
-use Rattle.clause_form.proofs.Below.{AreBelow, AreGates, AreMembers, no-members, more-members, wire-gates, negated-gates, over-gates, over_two-gates, all_clauses-in, any_clauses-in, implies_clauses-in, same_clauses-in, formula-gates}
-use Rattle.clause_form.proofs.Extensions.{AreTrue, HasOne, true-parts, one-then, one-gate, one-same}
-use Rattle.clause_form.proofs.Meaning.{joined, Means, Rests, means-bare, means-none, means-more}
+use Rattle.feature_tree.specs.Truth.{agree}
+use Rattle.clause_form.specs.Gates.{all_clauses, any_clauses, implies_clauses, same_clauses}
 
 -- ---- literals
 

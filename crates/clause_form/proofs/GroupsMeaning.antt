@@ -1,17 +1,16 @@
 -- What a group's clauses mean: where its parent is there, it has as many children as the group asks.
-use Rattle.std.proofs.Common.{◌≡◌, ◌∙◌, refl, ap, sym, subst, ⊎_elim, ℕ, zero, suc, ◌+◌, ◌<◌, ◌≤◌, min, max, leb, Bool, true, false, cond, not, ◌&&◌, ◌||◌, List, [], ◌∷◌, ◌++◌, map, length, get_or, All, Option, Some, None, arith}
-use Rattle.std.specs.Prelude.{count_by, slice_get, nat_le, ◌==◌}
+use Rattle.std.proofs.Common.{◌≡◌, ◌∙◌, refl, ap, sym, ⊎_elim, ℕ, zero, suc, ◌+◌, ◌<◌, ◌≤◌, leb, Bool, true, false, cond, not, ◌&&◌, ◌||◌, List, [], ◌∷◌, ◌++◌, map, length, All, Option, Some, None, arith}
+use Rattle.std.specs.Prelude.{count_by, nat_le, ◌==◌}
 use Rattle.std.specs.List.{list_all, list_any}
 use Rattle.std.specs.Option.{option_map_or}
 use Rattle.std.proofs.lemmas.Bool.{cases_lt, le-leb, lt-leb, eq-eqb, eqb-true, false_from_ne_true}
 use Rattle.std.proofs.Math.Dec.{eqb-suc-suc}
 use Rattle.std.proofs.lemmas.Option.{unwrap_or-slice_get, slice_get_past}
-use Rattle.std.proofs.lemmas.List.{length-append, get_or_append_left}
 use Rattle.std.proofs.lemmas.List.Elements.{All-nil, All-cons, All-head, All-tail, All-map}
 use Rattle.std.proofs.lemmas.List.Folds.{list_all-append}
 use Rattle.std.proofs.lemmas.List.Sums.{count_by-le-length, sum_by-append}
 use Rattle.clauses.specs.declared.literal.Lit.{Lit}
-use Rattle.clauses.specs.Clause.{is_true_in, is_satisfied, are_satisfied, negation, negative_of, positive_of}
+use Rattle.clauses.specs.Clause.{is_true_in, is_satisfied, are_satisfied, negative_of, positive_of}
 use Rattle.clauses.specs.Problem.{IsBelow}
 use Rattle.count_gates.specs.Table.{Member, Always, Never, Is, opposite, or_never, at_least, row_literals, table_size, table_clauses, table_literals}
 use Rattle.count_gates.proofs.Truths.{truth as member_truth, truth-clause}
@@ -24,12 +23,11 @@ use Rattle.feature_tree.specs.declared.group.GroupKind.TheVariants.{Mandatory, O
 use Rattle.feature_tree.specs.Truth.{is_in}
 use Rattle.feature_tree.specs.Product.{count_in, allows}
 use Rattle.feature_tree.specs.Decided.{is_met}
-use Rattle.clause_form.specs.Parts.{Part, Own, size, clauses, bare}
 use Rattle.clause_form.specs.Groups.{within, counted, under, bound_clauses, range_part, kind_part, group_part}
-use Rattle.clause_form.proofs.Below.{AreBelow, below-more, pairs-in, IsWithin}
+use Rattle.clause_form.proofs.Below.{below-more, pairs-in}
 use Rattle.clause_form.proofs.Extensions.{AreTrue, HasOne, true-parts, one-also}
 use Rattle.clause_form.proofs.GatesMeaning.{negation-truth, literal-more, pairs-truth}
-use Rattle.clause_form.proofs.GroupsBelow.{range-within, kind-within}
+use Rattle.clause_form.proofs.GroupsBelow.{range-within}
 use Rattle.clause_form.proofs.Meaning.{Means, Rests, means-bare, means-same}
 
 -- ---- counting
@@ -129,20 +127,20 @@ module _ (n : ℕ) where
         within = range-within n parent low high children less below;
         rests = rest;
         says = λ first l values e.
-        let both = true-parts values (table_clauses first upto children) (bound_clauses parent (table_literals first upto children) low high) e in
-        sym (bounds-truth values first upto children both.0 parent low high (omega arith)) ∙ both.1;
+            let both = true-parts values (table_clauses first upto children) (bound_clauses parent (table_literals first upto children) low high) e in
+            sym (bounds-truth values first upto children both.0 parent low high (omega arith)) ∙ both.1;
         one = λ before l e.
-        let first = length before in
-        let there = below-more n (length before) children l below in
-        let some = some-extension upto children before there in
-        let mine : HasOne before (table_size (length children) upto) (table_clauses first upto children) = record {
-          new = some.0;
-          sized = some.1;
-          true_there = some.2;
-          only = λ other sized x. only-extension upto children before other some.0 there sized some.1 x some.2;
-        } in
-        one-also before (table_size (length children) upto) (table_clauses first upto children) (bound_clauses parent (table_literals first upto children) low high) mine
-        (bounds-truth (before ++ some.0) first upto children some.2 parent low high (omega arith) ∙ rest before some.0 l ∙ e);
+            let first = length before in
+            let there = below-more n (length before) children l below in
+            let some = some-extension upto children before there in
+            let mine : HasOne before (table_size (length children) upto) (table_clauses first upto children) = record {
+              new = some.0;
+              sized = some.1;
+              true_there = some.2;
+              only = λ other sized x. only-extension upto children before other some.0 there sized some.1 x some.2;
+            } in
+            one-also before (table_size (length children) upto) (table_clauses first upto children) (bound_clauses parent (table_literals first upto children) low high) mine
+            (bounds-truth (before ++ some.0) first upto children some.2 parent low high (omega arith) ∙ rest before some.0 l ∙ e);
       }
 
 -- ---- counts of members

@@ -1,3 +1,4 @@
+pub mod AssignmentLaws
 pub mod Below
 pub mod ClauseFormLaws
 pub mod Extensions

@@ -1,15 +1,15 @@
 -- What parts mean: which values of the features they allow, with exactly one list of values for their own variables.
-use Rattle.std.proofs.Common.{◌≡◌, ◌∙◌, refl, ap, sym, subst, ℕ, zero, suc, ◌+◌, ◌<◌, ◌≤◌, Bool, true, false, not, ◌&&◌, ◌||◌, List, [], ◌∷◌, ◌++◌, map, length, All, arith}
-use Rattle.std.specs.List.{list_all, list_any}
+use Rattle.std.proofs.Common.{◌≡◌, ◌∙◌, refl, ap, sym, subst, ℕ, ◌+◌, ◌≤◌, Bool, true, ◌&&◌, List, [], ◌∷◌, ◌++◌, map, length, All, arith}
+use Rattle.std.specs.List.{list_all}
 use Rattle.std.proofs.lemmas.Bool.{and_parts, and_from}
 use Rattle.std.proofs.lemmas.List.{length-append}
-use Rattle.std.proofs.lemmas.List.Elements.{All-nil, All-cons, All-head, All-tail, All-append}
+use Rattle.std.proofs.lemmas.List.Elements.{All-head, All-tail, All-append}
 use Rattle.clauses.specs.declared.literal.Lit.{Lit}
-use Rattle.clauses.specs.Clause.{is_true_in, is_satisfied, are_satisfied, positive_of}
+use Rattle.clauses.specs.Clause.{are_satisfied}
 use Rattle.clauses.specs.Problem.{IsBelow}
 use Rattle.clause_form.specs.Parts.{Part, Own, size, clauses, bare, size_of, clauses_from}
-use Rattle.clause_form.proofs.Below.{AreBelow, are-below-more, IsWithin, AreWithin, bare-within, none-within, more-within}
-use Rattle.clause_form.proofs.Extensions.{AreTrue, HasOne, true-both, true-parts, true-more, one-none, one-bare, one-then, one-same}
+use Rattle.clause_form.proofs.Below.{AreBelow, are-below-more, IsWithin, bare-within, none-within, more-within}
+use Rattle.clause_form.proofs.Extensions.{AreTrue, HasOne, true-parts, true-more, one-none, one-bare, one-then, one-same}
 use Rattle.clause_form.proofs.Sizes.{clauses_from-append, size_of-append}
 
 -- the parts as one
@@ -55,17 +55,17 @@ module _ (n : ℕ) where
     within = more-within n part parts here.within rest.within;
     rests = λ values more l. ap (λ p. p && Q (values ++ more)) (here.rests values more l) ∙ ap (λ q. P values && q) (rest.rests values more l);
     says = λ first l values e.
-    let both = true-parts values (clauses part first) (clauses_from (first + size part) parts) e in
-    and_from (P values) (Q values) (here.says first l values both.0) (rest.says (first + size part) (omega arith) values both.1);
+        let both = true-parts values (clauses part first) (clauses_from (first + size part) parts) e in
+        and_from (P values) (Q values) (here.says first l values both.0) (rest.says (first + size part) (omega arith) values both.1);
     one = λ before l e.
-    let both = and_parts (P before) (Q before) e in
-    let mine = here.one before l both.0 in
-    let longer = length-append before mine.new in
-    let is_size : length mine.new ≡ size part = mine.sized in
-    let place : length (before ++ mine.new) ≡ length before + size part = omega arith in
-    let enough : n ≤ length (before ++ mine.new) = omega arith in
-    one-then before (size part) (size_of parts) (clauses part (length before)) (clauses_from (length before + size part) parts) (here.within (length before) l) mine
-    (subst (λ k. HasOne (before ++ mine.new) (size_of parts) (clauses_from k parts)) place (rest.one (before ++ mine.new) enough (rest.rests before mine.new l ∙ both.1)));
+        let both = and_parts (P before) (Q before) e in
+        let mine = here.one before l both.0 in
+        let longer = length-append before mine.new in
+        let is_size : length mine.new ≡ size part = mine.sized in
+        let place : length (before ++ mine.new) ≡ length before + size part = omega arith in
+        let enough : n ≤ length (before ++ mine.new) = omega arith in
+        one-then before (size part) (size_of parts) (clauses part (length before)) (clauses_from (length before + size part) parts) (here.within (length before) l) mine
+        (subst (λ k. HasOne (before ++ mine.new) (size_of parts) (clauses_from k parts)) place (rest.one (before ++ mine.new) enough (rest.rests before mine.new l ∙ both.1)));
   }
 
   -- a list of parts, each with its condition
@@ -80,26 +80,26 @@ module _ (n : ℕ) where
   means-append a b P Q here rest =
       let size_is = size_of-append a b in record {
         within = λ first l.
-        let bound = first + size_of (a ++ b) in
-        subst (AreBelow bound) (sym (clauses_from-append first a b))
-        (both_below bound (clauses_from first a) (clauses_from (first + size_of a) b)
-        (are-below-more (first + size_of a) bound (clauses_from first a) (omega arith) (here.within first l))
-        (are-below-more ((first + size_of a) + size_of b) bound (clauses_from (first + size_of a) b) (omega arith) (rest.within (first + size_of a) (omega arith))));
+            let bound = first + size_of (a ++ b) in
+            subst (AreBelow bound) (sym (clauses_from-append first a b))
+            (both_below bound (clauses_from first a) (clauses_from (first + size_of a) b)
+            (are-below-more (first + size_of a) bound (clauses_from first a) (omega arith) (here.within first l))
+            (are-below-more ((first + size_of a) + size_of b) bound (clauses_from (first + size_of a) b) (omega arith) (rest.within (first + size_of a) (omega arith))));
         rests = λ values more l. ap (λ p. p && Q (values ++ more)) (here.rests values more l) ∙ ap (λ q. P values && q) (rest.rests values more l);
         says = λ first l values e.
-        let both = true-parts values (clauses_from first a) (clauses_from (first + size_of a) b) (ap (are_satisfied values) (sym (clauses_from-append first a b)) ∙ e) in
-        and_from (P values) (Q values) (here.says first l values both.0) (rest.says (first + size_of a) (omega arith) values both.1);
+            let both = true-parts values (clauses_from first a) (clauses_from (first + size_of a) b) (ap (are_satisfied values) (sym (clauses_from-append first a b)) ∙ e) in
+            and_from (P values) (Q values) (here.says first l values both.0) (rest.says (first + size_of a) (omega arith) values both.1);
         one = λ before l e.
-        let both = and_parts (P before) (Q before) e in
-        let mine = here.one before l both.0 in
-        let longer = length-append before mine.new in
-        let is_size : length mine.new ≡ size_of a = mine.sized in
-        let place : length (before ++ mine.new) ≡ length before + size_of a = omega arith in
-        let enough : n ≤ length (before ++ mine.new) = omega arith in
-        one-same before (size_of a + size_of b) (size_of (a ++ b)) (clauses_from (length before) a ++ clauses_from (length before + size_of a) b) (clauses_from (length before) (a ++ b)) (sym size_is)
-        (sym (clauses_from-append (length before) a b))
-        (one-then before (size_of a) (size_of b) (clauses_from (length before) a) (clauses_from (length before + size_of a) b) (here.within (length before) l) mine
-        (subst (λ k. HasOne (before ++ mine.new) (size_of b) (clauses_from k b)) place (rest.one (before ++ mine.new) enough (rest.rests before mine.new l ∙ both.1))));
+            let both = and_parts (P before) (Q before) e in
+            let mine = here.one before l both.0 in
+            let longer = length-append before mine.new in
+            let is_size : length mine.new ≡ size_of a = mine.sized in
+            let place : length (before ++ mine.new) ≡ length before + size_of a = omega arith in
+            let enough : n ≤ length (before ++ mine.new) = omega arith in
+            one-same before (size_of a + size_of b) (size_of (a ++ b)) (clauses_from (length before) a ++ clauses_from (length before + size_of a) b) (clauses_from (length before) (a ++ b)) (sym size_is)
+            (sym (clauses_from-append (length before) a b))
+            (one-then before (size_of a) (size_of b) (clauses_from (length before) a) (clauses_from (length before + size_of a) b) (here.within (length before) l) mine
+            (subst (λ k. HasOne (before ++ mine.new) (size_of b) (clauses_from k b)) place (rest.one (before ++ mine.new) enough (rest.rests before mine.new l ∙ both.1))));
       } where
         both_below : (bound : ℕ) (x y : List (List Lit)) → AreBelow bound x → AreBelow bound y → AreBelow bound (x ++ y)
         both_below bound x y p q = All-append (All (IsBelow bound)) x y p q

@@ -14,7 +14,6 @@ use Rattle.feature_tree.specs.declared.feature.Feature.{Feature}
 use Rattle.feature_tree.specs.declared.formula.Formula.{Formula}
 use Rattle.feature_tree.specs.FeatureModel.{FeatureModel}
 use Rattle.feature_tree.specs.Names.{NamesBelow}
-use Rattle.feature_tree.specs.WellFormed.{IsWellFormed}
 use Rattle.feature_tree.specs.inside.Within.{IsWithin as IsFeatureWithin}
 use Rattle.feature_tree.proofs.Products.{features_are_within}
 use Rattle.clause_form.specs.Parts.{Part, size, clauses, size_of, clauses_from}

@@ -1,14 +1,11 @@
 -- What all parts together mean: the products that make every must true.
-use Rattle.std.proofs.Common.{◌≡◌, ◌∙◌, refl, ap, sym, subst, ℕ, zero, suc, ◌+◌, ◌<◌, ◌≤◌, Bool, true, false, not, ◌&&◌, ◌||◌, List, [], ◌∷◌, ◌++◌, map, length, All, Option, Some, None, arith}
-use Rattle.std.specs.Prelude.{flat_map, ◌==◌}
-use Rattle.std.specs.List.{list_all, list_any, enumerate_from}
+use Rattle.std.proofs.Common.{◌≡◌, ◌∙◌, refl, ap, sym, ℕ, ◌+◌, ◌<◌, Bool, true, false, not, ◌&&◌, ◌||◌, List, [], ◌∷◌, ◌++◌, map, length, All, Option, Some, None}
+use Rattle.std.specs.List.{list_all, enumerate_from}
 use Rattle.std.specs.Option.{option_map_or}
-use Rattle.std.proofs.lemmas.Bool.{and_parts, and_from}
 use Rattle.std.proofs.lemmas.Option.{unwrap_or-slice_get}
 use Rattle.std.proofs.lemmas.List.Elements.{All-head, All-tail, All-weaker}
 use Rattle.std.proofs.lemmas.List.Folds.{list_all-append}
-use Rattle.clauses.specs.declared.literal.Lit.{Lit}
-use Rattle.clauses.specs.Clause.{is_true_in, is_satisfied, are_satisfied, negative_of, positive_of, unit_of}
+use Rattle.clauses.specs.Clause.{is_true_in, is_satisfied, are_satisfied, negative_of, positive_of}
 use Rattle.config_reader.specs.Configuration.{Configuration}
 use Rattle.config_reader.specs.Consistent.{formulas_of}
 use Rattle.feature_tree.specs.declared.group.Group.{Group}
@@ -17,15 +14,14 @@ use Rattle.feature_tree.specs.declared.formula.Formula.{Formula}
 use Rattle.feature_tree.specs.FeatureModel.{FeatureModel}
 use Rattle.feature_tree.specs.Names.{NamesBelow}
 use Rattle.feature_tree.specs.Truth.{is_in, truth}
-use Rattle.feature_tree.specs.Decided.{is_met, is_settled, is_product}
+use Rattle.feature_tree.specs.Decided.{is_met, is_settled}
 use Rattle.clause_form.specs.Laws.{IsStatedOf}
-use Rattle.clause_form.specs.Parts.{Part, bare, size_of, clauses_from}
-use Rattle.clause_form.specs.Gates.{gates, gates_of, literals_from}
+use Rattle.clause_form.specs.Parts.{bare}
+use Rattle.clause_form.specs.Gates.{gates, gates_of}
 use Rattle.clause_form.specs.Groups.{group_part}
 use Rattle.clause_form.specs.ClauseForm.{parent_clauses, tree_clauses, group_parts, asserted, asserted_parts, parts_of}
-use Rattle.clause_form.proofs.Extensions.{AreTrue}
 use Rattle.clause_form.proofs.FormulaMeaning.{MembersMean, no-members-mean, more-members-mean, formula-means, asserted-means}
-use Rattle.clause_form.proofs.GroupsBelow.{IsFeatureIn, EachIn, tree-below}
+use Rattle.clause_form.proofs.GroupsBelow.{EachIn, tree-below}
 use Rattle.clause_form.proofs.GroupsMeaning.{group-means}
 use Rattle.clause_form.proofs.Meaning.{joined, Means, means-bare, means-same, means-none, means-more, means-each, means-append}
 use Rattle.clause_form.proofs.ProblemLaws.{features-in, formulas-named}

@@ -3,7 +3,7 @@ use Rattle.std.specs.Prelude.{◌≡◌, ◌↔◌, ℕ, Bool, IsTrue, List, All
 use Rattle.req_keys.specs.Key.{PositionSet}
 use Rattle.clauses.specs.Clause.{are_satisfied}
 use Rattle.clauses.specs.Met.{AreMet, IsMet}
-use Rattle.clauses.specs.Problem.{ClauseProblem, IsProblem, clauses_with}
+use Rattle.clauses.specs.Problem.{ClauseProblem, clauses_with}
 use Rattle.config_reader.specs.Configuration.{Configuration}
 use Rattle.config_reader.specs.Consistent.{AreConsistent, formulas_at, formulas_of}
 use Rattle.config_reader.specs.Laws.{AreNamed}
