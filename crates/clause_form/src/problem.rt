@@ -1,6 +1,7 @@
 //! The whole problem.
-ghost use Rattle.std.specs.Prelude.{◌≡◌, ◌+◌, ◌<◌, ◌≤◌, ◌++◌, ◌^◌, All, map, length, IfOk, IfErr, OnOk};
-ghost use Rattle.config_reader.specs.Consistent.{formulas_of};
+ghost use Rattle.std.specs.Prelude.{◌≡◌, ◌↔◌, ◌+◌, ◌<◌, ◌≤◌, ◌++◌, ◌^◌, All, List, map, ℕ, length, IfOk, IfErr, OnOk};
+ghost use Rattle.config_reader.specs.Consistent.{AreConsistent, formulas_of};
+ghost use Rattle.clauses.specs.Met.{AreMet};
 ghost use Rattle.config_reader.specs.Laws.{AreNamed};
 ghost use Rattle.feature_tree.specs.inside.Within.{ChildrenBelow};
 ghost use Rattle.clause_form.specs.ClauseForm.{IsRefusal, asserted, group_parts, needed as needed_for, problem_of as problem, tree_clauses};
@@ -32,6 +33,7 @@ pub fn problem_of(
     requires allowance { allowance ≤ 2 ^ 40 }
     requires rungs { rungs ≤ 4 }
     ensures problem { IfOk result (λ made. made ≡ problem model.now config.now allowance rungs) }
+    ensures meets { IfOk result (λ made. (positions : List ℕ) → AreConsistent model.now config.now positions ↔ AreMet made positions) }
     ensures few { OnOk result (needed_for model.now config.now ≤ 1000000) }
     ensures refused { IfErr result (λ e. IsRefusal e (needed_for model.now config.now)) }
 {

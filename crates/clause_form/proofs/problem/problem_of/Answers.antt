@@ -1,13 +1,16 @@
-use Rattle.std.proofs.Common.{◌≡◌, ◌∙◌, ap, sym, subst, ◌+◌, ◌≤◌, [], ◌++◌, map, length, arith}
+use Rattle.std.proofs.Common.{◌≡◌, ◌↔◌, ◌∙◌, ap, sym, subst, ◌+◌, ◌≤◌, [], ◌++◌, map, length, arith}
 use Rattle.std.proofs.lemmas.List.{append-nil}
-use Rattle.clauses.specs.Problem.{IsProblem}
+use Rattle.clauses.specs.Met.{AreMet}
+use Rattle.clauses.specs.Problem.{ClauseProblem, IsProblem}
+use Rattle.req_keys.specs.Wanting.{key_over}
 use Rattle.feature_tree.specs.WellFormed.{IsWellFormed}
 use Rattle.config_reader.specs.Configuration.{Configuration}
-use Rattle.config_reader.specs.Consistent.{formulas_of}
+use Rattle.config_reader.specs.Consistent.{AreConsistent, formulas_of}
 use Rattle.feature_tree.specs.FeatureModel.{FeatureModel}
-use Rattle.clause_form.specs.ClauseForm.{asserted, asserted_parts, group_parts, parts_of, tree_clauses}
+use Rattle.clause_form.specs.ClauseForm.{asserted, asserted_parts, group_parts, parts_of, problem_of, tree_clauses}
 use Rattle.clause_form.specs.Gates.{gates, gates_of, literals_from}
 use Rattle.clause_form.specs.Parts.{clauses_from, size_of}
+use Rattle.clause_form.proofs.AssignmentLaws.{consistent-met}
 use Rattle.clause_form.proofs.ClauseFormLaws.{few_variables, variables_of-sections, asserted-size}
 use Rattle.clause_form.proofs.ProblemLaws.{IsMade, made-more, is-problem, problem-is}
 use Rattle.clause_form.specs.Laws.{IsStatedOf}
@@ -120,12 +123,26 @@ returns-clause-problem c =
     ∙ ap (λ fs. literals_from c.add_musts.new.out.next_variable (map gates_of (formulas_of fs))) (c.as_slice-5.ensures ∙ requirements)
     ∙ ap (λ k. literals_from k (map gates_of (formulas_of config.requirements))) three.after)
 
+stated-of : (c : goal.After-into_clauses) → IsStatedOf c.args.model.now c.args.config.now
+stated-of c = record {
+  formed = subst (λ (m : FeatureModel). IsWellFormed m.features m.constraints) c.model.view_is c.model.invariant;
+  requirements = c.requires.requirements;
+  musts = c.requires.musts;
+}
+
+pub returns-clause-meets : goal.returns-clause-meets
+returns-clause-meets c =
+    λ positions.
+    let model = c.args.model.now in
+    let config = c.args.config.now in
+    let problem = problem_of c.args.model.now c.args.config.now c.args.allowance c.args.rungs in
+    subst (λ (made : ClauseProblem). AreConsistent model config positions ↔ AreMet made positions) (sym (returns-clause-problem c))
+    (consistent-met model config c.args.allowance c.args.rungs (key_over (length problem.roots) positions) (stated-of c))
+
 pub invariant_of-result : goal.invariant_of-result
 invariant_of-result c =
     let model = c.args.model.now in
     let config = c.args.config.now in
     let fits = few_variables model config c.needed-needed.result c.needed-needed.ensures (omega arith) in
-    let formed = subst (λ (m : FeatureModel). IsWellFormed m.features m.constraints) c.model.view_is c.model.invariant in
     let requirements = subst (λ (m : Configuration). length m.requirements ≤ 4096) c.config.view_is c.config.invariant.requirements_few in
-    let stated : IsStatedOf model config = record { formed = formed; requirements = c.requires.requirements; musts = c.requires.musts } in
-    subst IsProblem (sym (returns-clause-problem c)) (is-problem model config c.args.allowance c.args.rungs stated requirements fits c.requires.allowance c.requires.rungs)
+    subst IsProblem (sym (returns-clause-problem c)) (is-problem model config c.args.allowance c.args.rungs (stated-of c) requirements fits c.requires.allowance c.requires.rungs)
