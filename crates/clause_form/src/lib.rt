@@ -17,3 +17,6 @@ pub use count::needed;
 pub use error::BuildError;
 pub use laws::{assignments_are_products, consistent_is_met};
 pub use problem::problem_of;
+
+#[cfg(test)]
+mod tests;
