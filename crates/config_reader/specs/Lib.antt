@@ -1,4 +1,5 @@
 pub mod Configuration
+pub mod Consistent
 pub mod Examples
 pub mod Judgement
 pub mod Kinds

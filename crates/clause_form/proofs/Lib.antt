@@ -1,0 +1,15 @@
+pub mod AssignmentLaws
+pub mod Below
+pub mod ClauseFormLaws
+pub mod Extensions
+pub mod FormulaMeaning
+pub mod GatesLaws
+pub mod GatesMeaning
+pub mod GroupsBelow
+pub mod GroupsLaws
+pub mod GroupsMeaning
+pub mod Meaning
+pub mod ProblemLaws
+pub mod Sizes
+pub mod Walks
+pub mod WholeMeaning
