@@ -4,3 +4,4 @@ pub mod Runs
 pub mod Explaining
 pub mod RightOutcome
 pub mod MustsLemmas
+pub mod AdviceLaws

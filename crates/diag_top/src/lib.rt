@@ -15,7 +15,7 @@ mod write;
 
 pub use command_line::{Command, Status, read_words};
 pub use job::{Outcome, Part};
-pub use laws::{answers_are_no_faults, outcomes_are_right};
+pub use laws::{advice_is_right, answers_are_no_faults, outcomes_are_right};
 pub use run::run_alone;
 
 #[cfg(test)]
