@@ -1,0 +1,4 @@
+pub mod Sets
+pub mod Levels
+pub mod Listings
+pub mod OneListing

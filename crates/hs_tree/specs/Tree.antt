@@ -26,7 +26,7 @@ without n set = positions_where n (λ position. not (has set position))
 
 -- By how the first of a level's other sets compares with the set, as lists: the set goes before it, or is the same, or goes
 -- behind it.
-abbrev by_place : Ordering → List (List ℕ) → List (List ℕ) → List (List ℕ) → List (List ℕ)
+abbrev pub by_place : Ordering → List (List ℕ) → List (List ℕ) → List (List ℕ) → List (List ℕ)
 by_place Less before same behind = before
 by_place Equal before same behind = same
 by_place Greater before same behind = behind

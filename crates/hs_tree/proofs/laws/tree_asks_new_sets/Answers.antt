@@ -5,7 +5,7 @@ use Rattle.pref_sets.specs.QuickXplain.{qx}
 use Rattle.pref_sets.proofs.Plans.{over-new}
 use Rattle.pref_sets.proofs.QuickXplainPlan.{qx_plan, qx_part-plan}
 use Rattle.hs_tree.specs.Tree.{Outcome, asks, ends, Standing, without, is_within, known_label, by_label, by_conflict, by_rest, by_known, one_set, further, one_level, levels, next_of}
-use Rattle.hs_tree.proofs.tree_asks_new_sets.Goals as goal
+use Rattle.hs_tree.proofs.laws.tree_asks_new_sets.Goals as goal
 
 -- what is asked has no answer
 abbrev AsksNew : List Answer → Outcome → Type 0

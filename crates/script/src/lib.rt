@@ -1,0 +1,7 @@
+//! The job: its parts run one after the other over the pairs of key and verdict that were told (`specs/Job.antt`), and the
+//! sequential run, which is told the verdict of each key that is asked (`specs/Sequential.antt`).
+#![tactic(auto)]
+
+mod job;
+
+pub use job::{JobPlan, Outcome, Part, Parts};
