@@ -1,65 +1,51 @@
-//! A model worked by hand, with the calls on it.
+//! The calls on a small model.
 ghost use Rattle.std.specs.Prelude.{◌≡◌, IfOk, length};
 ghost use Rattle.config_reader.specs.Laws.{AreNamed};
-ghost use Rattle.feature_tree.specs.Names.{NamesBelow};
 
 use super::*;
 use clauses::{clause_of, clauses_of};
-use config_reader::{Config, Requirement, Requirements};
-use feature_tree::{Boxed, Formula, GroupKind, Model, Row, Text, Tree};
+use config_reader::{Config, Requirement};
+use feature_tree::{Boxed, Formula, Model, Row, Text, Tree};
 use std::alloc::{AllocError, Global};
 use std::test::Fail;
 
-/// A root with the alternatives 1 and 2, of which 1 is ruled out.
+/// A root alone.
 fn model(alloc: Global) -> Result<Model, AllocError>
-    ensures { IfOk result (λ model. length model.features ≡ 3) }
+    ensures { IfOk result (λ model. length model.features ≡ 1) }
 {
-    let mut tree = Tree::new(alloc, Text::from_slice(alloc, b"R")?)?;
-    let first = Text::from_slice(alloc, b"A")?;
-    let second = Text::from_slice(alloc, b"B")?;
-    tree.add_group(alloc, 0, GroupKind::Alternative, 0, None, first)?;
-    tree.add_child(alloc, 0, second)?;
-    let mut constraints = Row::new(alloc);
-    constraints.push(Formula::Not(Boxed::new(alloc, Formula::Name(1))?))?;
-    Ok(tree.into_model(constraints))
+    let tree = Tree::new(alloc, Text::from_slice(alloc, b"R")?)?;
+    Ok(tree.into_model(Row::new(alloc)))
 }
 
-/// The formula alone.
-fn wanted(alloc: Global, formula: Formula) -> Result<Requirements, AllocError>
-    requires { NamesBelow 3 formula }
-    ensures named { IfOk result (AreNamed 3) }
-    ensures one { IfOk result (λ requirements. length requirements ≡ 1) }
+/// The requirement 'R implies R', and no must.
+fn config(alloc: Global) -> Result<Config, AllocError>
+    ensures named { IfOk result (λ config. AreNamed 1 config.requirements) }
+    ensures none { IfOk result (λ config. AreNamed 1 config.musts) }
 {
+    let left = Boxed::new(alloc, Formula::Name(0))?;
+    let right = Boxed::new(alloc, Formula::Name(0))?;
     let mut requirements = Row::new(alloc);
     requirements.push(Requirement {
         text: Text::new(alloc),
-        formula,
+        formula: Formula::Implies(left, right),
     })?;
-    Ok(requirements)
+    Ok(Config {
+        requirements,
+        musts: Row::new(alloc),
+    })
 }
 
-// Variables from d to f count the alternatives, and g is the requirement's gate.
+// 'R implies R' is wanted, and has the gate b.
 #[test]
 fn makes_a_problem(rt: HostRuntime) -> Result<(), Fail> {
     let alloc = rt.alloc();
     let model = model(alloc)?;
-    let left = Boxed::new(alloc, Formula::Name(1))?;
-    let right = Boxed::new(alloc, Formula::Name(2))?;
-    let config = Config {
-        requirements: wanted(alloc, Formula::Implies(left, right))?,
-        musts: wanted(alloc, Formula::Name(2))?,
-    };
-    assert_eq!(rt; needed(&model, &config), 7);
-    let words = &[
-        "a", "Ba", "Ca", "Db", "dB", "Edc", "eD", "eC", "Fc", "Fd", "fDC", "Ae", "AF", "B", "c",
-        "gb", "gC", "GBc",
-    ];
+    let config = config(alloc)?;
+    assert_eq!(rt; needed(&model, &config), 2);
     match problem_of(alloc, &model, &config, 10, 0) {
         Ok(problem) => {
-            assert!(rt; problem.clauses == clauses_of(alloc, 7, words)?);
-            assert!(rt; problem.roots == clause_of(alloc, 7, "g")?);
-            assert_eq!(rt; problem.variables, 7);
-            assert!(rt; problem.satisfies(&[true, false, true, false, true, false, true]));
+            assert!(rt; problem.clauses == clauses_of(alloc, 2, &["a", "ba", "bA", "BAa"])?);
+            assert!(rt; problem.roots == clause_of(alloc, 2, "b")?);
         }
         Err(error) => assert!(rt; false, "{error}"),
     }
