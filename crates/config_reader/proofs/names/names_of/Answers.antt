@@ -1,6 +1,6 @@
 use Rattle.std.proofs.Common.{◌≡◌, ◌+◌, sym, ◌∙◌, arith}
 use Rattle.config_reader.proofs.NameMap.{name_is_new, names_from-take}
-use Rattle.config_reader.proofs.names.Names.of.Goals as goal
+use Rattle.config_reader.proofs.names.names_of.Goals as goal
 
 pub insert-requires : goal.insert-requires
 insert-requires c =
