@@ -14,7 +14,7 @@ use Rattle.config_reader.specs.declared.placed.Placed.{Placed}
 use Rattle.config_reader.specs.Judgement.{OrRefused, and_then, on_ok, one_more, most, Standing, start, with_tier, with_must, with_wanted, after_kind, after_line, after_lines, IsRefusal}
 use Rattle.config_reader.specs.Kinds.{kind_in, tier_of_line, version_of, judged}
 use Rattle.config_reader.specs.inside.Drafts.{IsShort}
-use Rattle.config_reader.specs.Names.{Numbers}
+use Rattle.name_table.specs.Numbers.{Numbers}
 use Rattle.config_reader.specs.Reading.{standing}
 
 module _ {A B : Type 0} where

@@ -1,33 +1,13 @@
--- A map whose keys are read by a function, as the list of what they show; and the names of features, as far as they stand
--- in the map.
-use Rattle.std.proofs.Common.{◌≡◌, ◌≢◌, ℕ, zero, suc, ◌+◌, ◌<◌, Bool, false, cond, List, [], ◌∷◌, ◌++◌, length, get_or, take, map, nat_eq, Some, None, refl, sym, ap, ◌∙◌, arith}
+-- The names of features, as far as they stand in a table of names.
+use Rattle.std.proofs.Common.{◌≡◌, ◌≢◌, ℕ, zero, suc, ◌+◌, ◌<◌, false, List, [], ◌∷◌, ◌++◌, length, get_or, take, nat_eq, None, refl, sym, ap, ◌∙◌, arith}
 use Rattle.std.proofs.lemmas.Bool.{false_from_ne_true}
 use Rattle.std.proofs.lemmas.List.{get_or-map, length-map}
 use Rattle.std.specs.Cmp.Lexicographic.{pointwise, bytes_decides}
 use Rattle.feature_tree.specs.declared.feature.Feature.{Feature}
 use Rattle.feature_tree.specs.WellFormed.{NamesDiffer}
-use Rattle.config_reader.specs.Names.{Numbers, names_from}
+use Rattle.config_reader.specs.Names.{names_from}
+use Rattle.name_table.specs.Numbers.{Numbers}
 use Rattle.std.specs.Map.{lookup}
-use Rattle.indexmap.specs.IndexMap.{IndexMap, insert_entry}
-use Rattle.indexmap.proofs.CallerLemmas.{insert_entry-new}
-
-module _ {K N X : Type 0} (show : K → N) where
-  abbrev pub shown : List (K × X) → List (N × X)
-  shown es = map (λ e. (show e.0, e.1)) es
-
-  pub lookup-shown : (test : N → Bool) (es : List (K × X)) → lookup (λ k. test (show k)) es ≡ lookup test (shown es)
-  lookup-shown test [] = refl
-  lookup-shown test (e ∷ es) = ap (λ r. cond (test (show e.0)) (Some e.1) r) (lookup-shown test es)
-
-  pub shown-append : (es fs : List (K × X)) → shown (es ++ fs) ≡ shown es ++ shown fs
-  shown-append [] fs = refl
-  shown-append (e ∷ es) fs = ap (λ l. (show e.0, e.1) ∷ l) (shown-append es fs)
-
-  -- a name that the map lacks goes last
-  pub shown-insert_new : {S : Type 0} (same : N → N → Bool) (old new : IndexMap K X S) (k : K) (v : X) → new.entries ≡ insert_entry (λ x y. same (show x) (show y)) old.entries k v → lookup (same (show k)) (shown old.entries) ≡ None → shown new.entries ≡ shown old.entries ++ (show k, v) ∷ []
-  shown-insert_new same old new k v put fresh =
-      ap shown (put ∙ insert_entry-new (λ x y. same (show x) (show y)) old k v (lookup-shown (same (show k)) old.entries ∙ fresh))
-      ∙ shown-append old.entries ((k, v) ∷ [])
 
 -- the names of the first features
 pub names_from-take : (number i : ℕ) (features : List Feature) (d : Feature) → i < length features → names_from number (take (i + 1) features) ≡ names_from number (take i features) ++ ((get_or features i d).name, number + i) ∷ []

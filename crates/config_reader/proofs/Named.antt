@@ -30,7 +30,8 @@ use Rattle.config_reader.specs.Configuration.{Configuration}
 use Rattle.config_reader.specs.Judgement.{OrRefused, and_then, on_ok, requirement, if_formula, with_numbers, one_more, most, Standing, start, with_tier, with_must, with_wanted, after_kind, after_line, after_lines}
 use Rattle.config_reader.specs.Kinds.{kind_in, tier_of_line, version_of, judged}
 use Rattle.config_reader.specs.Laws.{IsStated, ReadingsAreStated}
-use Rattle.config_reader.specs.Names.{Numbers, names_from, names_of, number_of, number_at, is_name, numbers}
+use Rattle.config_reader.specs.Names.{names_from, names_of, number_at, is_name, numbers}
+use Rattle.name_table.specs.Numbers.{Numbers, number_of}
 use Rattle.config_reader.specs.Reading.{configuration, if_lines, standing, numbered_by_tier}
 use Rattle.config_reader.specs.Texts.{text}
 use Rattle.config_reader.specs.Tiers.{of_tier, highest, in_order, by_tier}

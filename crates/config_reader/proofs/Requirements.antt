@@ -7,7 +7,8 @@ use Rattle.feature_tree.specs.declared.reader.error.FormulaError.TheVariants as 
 use Rattle.feature_tree.specs.FormulaAnswer.{formula_answer, IsRefusal as IsFormulaRefusal}
 use Rattle.uvl_lex.specs.declared.token.Token.{Token}
 use Rattle.config_reader.specs.Judgement.{requirement, if_formula, refusal, IsRefusal}
-use Rattle.config_reader.specs.Names.{Numbers, numbers, number_at}
+use Rattle.config_reader.specs.Names.{numbers, number_at}
+use Rattle.name_table.specs.Numbers.{Numbers}
 
 module _ (names : Numbers) (bytes : List ℕ) (line : ℕ) (tokens : List Token) where
   pub requirement_of_answer : (answer : Result Formula FormulaError) → formula_answer tokens ≡ answer → requirement names bytes line tokens ≡ if_formula names bytes line tokens answer

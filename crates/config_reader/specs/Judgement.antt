@@ -17,7 +17,8 @@ use Rattle.config_reader.specs.declared.kind.Kind.TheVariants.{Tier, Must, Wante
 use Rattle.config_reader.specs.declared.kind.Version.{Version}
 use Rattle.config_reader.specs.declared.placed.Placed.{Placed}
 use Rattle.config_reader.specs.Kinds.{kind_in, tier_of_line}
-use Rattle.config_reader.specs.Names.{Numbers, numbers}
+use Rattle.config_reader.specs.Names.{numbers}
+use Rattle.name_table.specs.Numbers.{Numbers}
 use Rattle.config_reader.specs.Texts.{text}
 
 -- what is asked for, or the one refusal

@@ -1,17 +1,12 @@
 -- Which features the tokens of a formula name.
-use Rattle.std.specs.Prelude.{ℕ, ◌+◌, Bool, true, false, if◌then◌else◌, nat_eq, List, [], ◌∷◌, Option, Some}
-use Rattle.std.specs.Cmp.Lexicographic.{pointwise}
-use Rattle.std.specs.Map.{lookup}
+use Rattle.std.specs.Prelude.{ℕ, ◌+◌, Bool, true, false, if◌then◌else◌, List, [], ◌∷◌, Option, Some}
 use Rattle.std.specs.Option.{option_and_then, option_map}
+use Rattle.name_table.specs.Numbers.{Numbers, number_of}
 use Rattle.feature_tree.specs.declared.feature.Feature.{Feature}
 use Rattle.uvl_lex.specs.declared.token.Token.{Token}
 use Rattle.uvl_lex.specs.declared.token.TokenKind.{TokenKind}
 use Rattle.uvl_lex.specs.declared.token.TokenKind.TheVariants.{Name, Quoted, Text, Number, Keyword, Mark}
 use Rattle.uvl_lex.specs.Text.{token_text}
-
--- names, each with its feature's number
-abbrev pub Numbers : Type 0
-Numbers = List (List ℕ × ℕ)
 
 -- the names of features, of which the first has this number
 abbrev pub names_from : ℕ → List Feature → Numbers
@@ -21,10 +16,6 @@ names_from number (feature ∷ after) = (feature.name, number) ∷ names_from (n
 -- the names of a model's features
 abbrev pub names_of : List Feature → Numbers
 names_of features = names_from 0 features
-
--- the number of the feature whose name has these bytes
-abbrev pub number_of : Numbers → List ℕ → Option ℕ
-number_of names name = lookup (pointwise nat_eq name) names
 
 -- a name, quoted or not
 abbrev pub is_name : TokenKind → Bool

@@ -15,7 +15,8 @@ use Rattle.config_reader.specs.declared.error.Reason.TheVariants.{NotUtf8, BadTo
 use Rattle.config_reader.specs.Configuration.{Configuration}
 use Rattle.config_reader.specs.Judgement.{OrRefused, on_ok, Standing, start, after_lines}
 use Rattle.config_reader.specs.Kinds.{version_of, judged}
-use Rattle.config_reader.specs.Names.{Numbers, names_of}
+use Rattle.config_reader.specs.Names.{names_of}
+use Rattle.name_table.specs.Numbers.{Numbers}
 use Rattle.config_reader.specs.Tiers.{by_tier}
 
 abbrev pub reason_of : LexReason → Reason

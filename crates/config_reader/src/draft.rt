@@ -9,11 +9,11 @@ use crate::config::{Config, Requirement, Requirements};
 use crate::error::{ConfigError, Reason};
 use crate::formula::one_more;
 use crate::kind::{Kind, Version};
-use crate::names::Names;
 use crate::placed::Placed;
 use crate::slices::after_first;
 use crate::tier::{by_tier, tier_of_line};
 use lists::Row;
+use name_table::Names;
 use std::alloc::{AllocError, Global};
 use uvl_lex::Line;
 

@@ -7,9 +7,9 @@ ghost use Rattle.uvl_lex.specs.Text.{IsSpanOf};
 
 use crate::config::{MOST, Requirement};
 use crate::error::{ConfigError, Reason};
-use crate::names::Names;
 use crate::texts::text_of_tokens;
 use feature_tree::{Formula, FormulaError, Numbers, formula_of};
+use name_table::Names;
 use std::alloc::{AllocError, Global};
 use uvl_lex::{Token, TokenKind, text_of};
 

@@ -10,9 +10,10 @@ use crate::config::Config;
 use crate::draft::{Draft, draft_of};
 use crate::error::{ConfigError, Reason};
 use crate::kind::Version;
-use crate::names::Names;
+use crate::names::names_of;
 use crate::slices::after_first;
 use feature_tree::Model;
+use name_table::Names;
 use std::alloc::Global;
 use uvl_lex::{LexError, LexReason, Line, logical_lines};
 
@@ -27,7 +28,7 @@ pub fn read_config(alloc: Global, bytes: &[u8], model: &Model) -> Result<Config,
         Ok(lines) => lines,
         Err(error) => return Err(fault(error)),
     };
-    let names = Names::of(alloc, model.features.as_slice())?;
+    let names = names_of(alloc, model.features.as_slice())?;
     let draft = standing(alloc, &names, bytes, lines.as_slice())?;
     Ok(draft.into_config(alloc)?)
 }

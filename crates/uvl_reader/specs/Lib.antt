@@ -5,3 +5,4 @@ pub mod ModelReading
 pub mod Nesting
 pub mod Refusals
 pub mod Shapes
+pub mod inside

@@ -4,23 +4,19 @@ use Rattle.uvl_lex.specs.declared.token.Line.{Line}
 use Rattle.uvl_lex.specs.declared.token.Token.{Token}
 use Rattle.uvl_lex.specs.declared.token.TokenKind.{TokenKind}
 use Rattle.uvl_lex.specs.declared.token.TokenKind.TheVariants.{Keyword}
-use Rattle.uvl_lex.specs.declared.token.Keyword.TheVariants.{Namespace, Include, Imports, Features, Constraints}
+use Rattle.uvl_lex.specs.declared.token.Keyword.TheVariants as word
+use Rattle.uvl_reader.specs.declared.kind.LineKind.{LineKind}
+use Rattle.uvl_reader.specs.declared.kind.LineKind.TheVariants.{SectionLine, FeatureLine, GroupLine, ConstraintLine, NoLine}
+use Rattle.uvl_reader.specs.declared.kind.Section.{Section}
+use Rattle.uvl_reader.specs.declared.kind.Section.TheVariants.{Namespace, Include, Imports, Features, Constraints}
 use Rattle.uvl_reader.specs.Nesting.{lines_above}
 
--- the five sections, in the order in which they come here
-pub data Section : Type 0 where
-  NamespaceSection : Section
-  IncludeSection : Section
-  ImportsSection : Section
-  FeaturesSection : Section
-  ConstraintsSection : Section
-
 abbrev pub section_of_kind : TokenKind → Option Section
-section_of_kind (Keyword Namespace) = Some NamespaceSection
-section_of_kind (Keyword Include) = Some IncludeSection
-section_of_kind (Keyword Imports) = Some ImportsSection
-section_of_kind (Keyword Features) = Some FeaturesSection
-section_of_kind (Keyword Constraints) = Some ConstraintsSection
+section_of_kind (Keyword word.Namespace) = Some Namespace
+section_of_kind (Keyword word.Include) = Some Include
+section_of_kind (Keyword word.Imports) = Some Imports
+section_of_kind (Keyword word.Features) = Some Features
+section_of_kind (Keyword word.Constraints) = Some Constraints
 section_of_kind _ = None
 
 -- the section that an unindented line begins, by its first token
@@ -29,24 +25,16 @@ section_of [] = None
 section_of (token ∷ tokens) = section_of_kind token.kind
 
 abbrev pub place_of : Section → ℕ
-place_of NamespaceSection = 0
-place_of IncludeSection = 1
-place_of ImportsSection = 2
-place_of FeaturesSection = 3
-place_of ConstraintsSection = 4
-
--- what a line is: one under no other; a feature; a group; a constraint; or a line that stands where none may
-pub data LineKind : Type 0 where
-  SectionLine : Option Section → LineKind
-  FeatureLine : LineKind
-  GroupLine : LineKind
-  ConstraintLine : LineKind
-  NoLine : LineKind
+place_of Namespace = 0
+place_of Include = 1
+place_of Imports = 2
+place_of Features = 3
+place_of Constraints = 4
 
 -- a line under `features` is a feature, the root; under a feature stand groups, and under a group features
 abbrev pub kind_under : LineKind → LineKind
-kind_under (SectionLine (Some FeaturesSection)) = FeatureLine
-kind_under (SectionLine (Some ConstraintsSection)) = ConstraintLine
+kind_under (SectionLine (Some Features)) = FeatureLine
+kind_under (SectionLine (Some Constraints)) = ConstraintLine
 kind_under (SectionLine _) = NoLine
 kind_under FeatureLine = GroupLine
 kind_under GroupLine = FeatureLine

@@ -20,8 +20,13 @@ use Rattle.feature_tree.specs.Numbered.{numbered}
 use Rattle.uvl_reader.specs.declared.error.Reason.{Reason}
 use Rattle.uvl_reader.specs.declared.error.Reason.TheVariants as reason
 use Rattle.uvl_reader.specs.Nesting.{judged_lines, lines_above}
-use Rattle.uvl_reader.specs.LineKinds.{Section, FeaturesSection, LineKind, FeatureLine, ConstraintLine, section_of, kind_of, is_feature, is_group, has_root}
-use Rattle.uvl_reader.specs.Shapes.{Header, FeatureShape, header_of, feature_of, is_name}
+use Rattle.uvl_reader.specs.declared.kind.LineKind.{LineKind}
+use Rattle.uvl_reader.specs.declared.kind.LineKind.TheVariants.{FeatureLine, ConstraintLine}
+use Rattle.uvl_reader.specs.declared.kind.Section.{Section}
+use Rattle.uvl_reader.specs.declared.kind.Section.TheVariants.{Features}
+use Rattle.uvl_reader.specs.LineKinds.{section_of, kind_of, is_feature, is_group, has_root}
+use Rattle.uvl_reader.specs.declared.header.Header.{Header}
+use Rattle.uvl_reader.specs.Shapes.{FeatureShape, header_of, feature_of, is_name}
 use Rattle.uvl_reader.specs.Attributes.{items_of, formulas_of_item}
 use Rattle.uvl_reader.specs.Refusals.{Refusal, first_of, refusal_at, fault_if, feature_name, first_refused}
 
@@ -96,15 +101,19 @@ named_by bytes known token = position (bytes_eq (token_text bytes token)) known
 abbrev pub names_unknown : List ℕ → List (List ℕ) → List Token → Bool
 names_unknown bytes known tokens = list_any (λ token. is_name token.kind && not (is_some (named_by bytes known token))) tokens
 
+-- the number that stands for a token of a formula; one that is no name stands for no feature, and has 0
+abbrev pub number_for : List ℕ → List (List ℕ) → Token → ℕ
+number_for bytes known token = if is_name token.kind then unwrap_or (named_by bytes known token) 0 else 0
+
 -- the formula, with features for names
 abbrev pub constraint_of : List ℕ → List (List ℕ) → List Token → Option Formula
 constraint_of bytes known tokens =
-    elim (formula_answer tokens) [ Ok read ↦ Some (numbered (map (λ token. unwrap_or (named_by bytes known token) 0) tokens) read) | Err error ↦ None ]
+    elim (formula_answer tokens) [ Ok read ↦ Some (numbered (map (number_for bytes known) tokens) read) | Err error ↦ None ]
 
 -- ---- the whole model
 
 abbrev pub is_features_line : Option Section → Bool
-is_features_line (Some FeaturesSection) = true
+is_features_line (Some Features) = true
 is_features_line _ = false
 
 -- the line of `features`, or 1 without one

@@ -13,7 +13,11 @@ use Rattle.feature_tree.specs.FormulaAnswer.{formula_answer}
 use Rattle.uvl_reader.specs.declared.error.Reason.{Reason}
 use Rattle.uvl_reader.specs.declared.error.Reason.TheVariants as reason
 use Rattle.uvl_reader.specs.Nesting.{has_place, lines_above}
-use Rattle.uvl_reader.specs.LineKinds.{Section, NamespaceSection, IncludeSection, ImportsSection, FeaturesSection, ConstraintsSection, LineKind, SectionLine, FeatureLine, GroupLine, ConstraintLine, NoLine, section_of, place_of, kind_of, is_feature, is_group, is_one, has_root}
+use Rattle.uvl_reader.specs.declared.kind.LineKind.{LineKind}
+use Rattle.uvl_reader.specs.declared.kind.LineKind.TheVariants.{SectionLine, FeatureLine, GroupLine, ConstraintLine, NoLine}
+use Rattle.uvl_reader.specs.declared.kind.Section.{Section}
+use Rattle.uvl_reader.specs.declared.kind.Section.TheVariants.{Namespace, Include, Imports, Features, Constraints}
+use Rattle.uvl_reader.specs.LineKinds.{section_of, place_of, kind_of, is_feature, is_group, is_one, has_root}
 use Rattle.uvl_reader.specs.Shapes.{FeatureShape, header_of, feature_of, is_unsupported}
 use Rattle.uvl_reader.specs.Attributes.{items_of, formulas_of_item}
 
@@ -64,11 +68,11 @@ comes_before place (Some section) = nat_lt (place_of section) place
 
 -- `imports` isn't supported; `features` and `constraints` stand alone on their line
 abbrev pub section_alone : Section → List Token → Option Reason
-section_alone NamespaceSection tokens = None
-section_alone IncludeSection tokens = None
-section_alone ImportsSection tokens = Some reason.Unsupported
-section_alone FeaturesSection tokens = fault_if (not (length tokens == 1)) reason.Misplaced
-section_alone ConstraintsSection tokens = fault_if (not (length tokens == 1)) reason.Misplaced
+section_alone Namespace tokens = None
+section_alone Include tokens = None
+section_alone Imports tokens = Some reason.Unsupported
+section_alone Features tokens = fault_if (not (length tokens == 1)) reason.Misplaced
+section_alone Constraints tokens = fault_if (not (length tokens == 1)) reason.Misplaced
 
 -- the sections come in their order, each at most once
 abbrev pub section_fault : List Line → Option Section → List Token → Option Reason

@@ -10,6 +10,7 @@ use Rattle.uvl_lex.specs.declared.token.TokenKind.TheVariants.{Name, Quoted, Num
 use Rattle.uvl_lex.specs.declared.token.Keyword.TheVariants as word
 use Rattle.uvl_lex.specs.declared.token.Mark.TheVariants.{Dots, Dot, Star, OpenRound, CloseRound, OpenSquare, CloseSquare, OpenCurly, CloseCurly}
 use Rattle.uvl_lex.specs.Text.{token_text}
+use Rattle.uvl_reader.specs.declared.header.Header.{Header}
 
 -- ---- a number of a cardinality: one to nine digits
 
@@ -31,12 +32,6 @@ abbrev pub bound_of : List ℕ → Token → Option ℕ
 bound_of bytes token = bound_by token.kind (token_text bytes token)
 
 -- ---- group lines
-
--- what a group line says: its kind, and of a range the least and the greatest number of children; other kinds have 0 and none
-pub record Header : Type 0 where
-  pub kind : GroupKind
-  pub low : ℕ
-  pub high : Option ℕ
 
 abbrev pub plain : GroupKind → Header
 plain kind = record { kind = kind; low = 0; high = None }

@@ -1,4 +1,5 @@
 //! Why a model file is refused.
+use std::alloc::AllocError;
 use thiserror::Error;
 
 /// What is wrong with a model file, at a line.
@@ -52,4 +53,15 @@ pub enum ModelError {
     Refused { line: u32, reason: Reason },
     #[error("out of memory")]
     Memory,
+}
+
+impl From<AllocError> for ModelError {
+    ghost use Rattle.std.specs.Prelude.{◌≡◌};
+    ghost use Rattle.uvl_reader.specs.declared.error.ModelError.{ModelError};
+
+    ghost from_gives = { λ _ e. e ≡ ModelError.Memory };
+
+    fn from(_: AllocError) -> ModelError {
+        ModelError::Memory
+    }
 }

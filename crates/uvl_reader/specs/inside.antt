@@ -1,0 +1,4 @@
+pub mod Drafts
+pub mod Good
+pub mod Next
+pub mod Standing
