@@ -7,7 +7,7 @@ ghost use Rattle.config_reader.specs.Laws.{IsStated};
 ghost use Rattle.config_reader.specs.Reading.{configuration};
 ghost use Rattle.diag_base.specs.Faults.{Rises};
 ghost use Rattle.uvl_reader.specs.ModelReading.{model_of};
-ghost use Rattle.uvl_reader.specs.Refused.{IsRefusal};
+ghost use Rattle.uvl_reader.specs.Refusals.{IsRefused};
 ghost use Rattle.diag_top.specs.Answer.{work_of, with_model, with_config};
 ghost use Rattle.diag_top.specs.inside.Follows.{Follows};
 ghost use Rattle.diag_top.specs.inside.Limits.{set};
@@ -106,7 +106,7 @@ fn diagnose_config(
 fn model_in(alloc: Global, bytes: Bytes) -> Result<Model, ModelError>
     requires { length bytes ≤ MOST }
     ensures model { IfOk result (λ model. model_of bytes ≡ Ok model) }
-    ensures refused { IfErr result (λ e. IsRefusal e (model_of bytes)) }
+    ensures refused { IfErr result (λ e. IsRefused e (model_of bytes)) }
 {
     read_model(alloc, bytes.as_slice())
 }

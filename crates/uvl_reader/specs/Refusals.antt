@@ -1,6 +1,6 @@
 -- Whether a logical line may stand where it stands, and if not, why. A fault of a line is the first that this order finds. Own
 -- to this project, but for UVL's shapes.
-use Rattle.std.specs.Prelude.{ℕ, ◌+◌, ◌/◌, ◌==◌, ◌&&◌, not, nat_le, nat_lt, Bool, false, if◌then◌else◌, List, [], ◌∷◌, length, Option, Some, None, Ok, Err}
+use Rattle.std.specs.Prelude.{◌≡◌, ℕ, ◌+◌, ◌/◌, ◌==◌, ◌&&◌, not, nat_le, nat_lt, Bool, false, if◌then◌else◌, List, [], ◌∷◌, length, Option, Some, None, Result, Ok, Err}
 use Rattle.std.specs.List.{list_any, list_all}
 use Rattle.std.specs.Option.{is_none}
 use Rattle.std.specs.Str.{bytes_eq}
@@ -10,6 +10,8 @@ use Rattle.uvl_lex.specs.Text.{token_text}
 use Rattle.feature_tree.specs.declared.reader.error.FormulaError.{FormulaError}
 use Rattle.feature_tree.specs.declared.reader.error.FormulaError.TheVariants as formula
 use Rattle.feature_tree.specs.FormulaAnswer.{formula_answer}
+use Rattle.uvl_reader.specs.declared.error.ModelError.{ModelError}
+use Rattle.uvl_reader.specs.declared.error.ModelError.TheVariants.{Refused, Memory}
 use Rattle.uvl_reader.specs.declared.error.Reason.{Reason}
 use Rattle.uvl_reader.specs.declared.error.Reason.TheVariants as reason
 use Rattle.uvl_reader.specs.Nesting.{has_place, lines_above}
@@ -135,6 +137,11 @@ line_fault bytes before line =
 pub record Refusal : Type 0 where
   pub line : ℕ
   pub reason : Reason
+
+-- the error is the refusal of what was to be read, unless it is want of memory
+abbrev pub IsRefused : {A : Type 0} → ModelError → Result A Refusal → Type 0
+IsRefused (Refused line reason) read = read ≡ Err (record { line = line; reason = reason })
+IsRefused Memory read = Unit {0}
 
 abbrev pub refusal_at : ℕ → Option Reason → Option Refusal
 refusal_at number None = None

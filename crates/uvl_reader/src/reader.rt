@@ -2,8 +2,9 @@
 ghost use Rattle.std.specs.Prelude.{◌≡◌, ◌≤◌, IfOk, IfErr, Ok, length};
 ghost use Rattle.uvl_reader.specs.inside.Drafts.{standing_of};
 ghost use Rattle.uvl_reader.specs.inside.Good.{IsGood};
-ghost use Rattle.uvl_reader.specs.inside.Standing.{model_at, text_refused, IsRefused};
+ghost use Rattle.uvl_reader.specs.inside.Standing.{model_at, text_refused};
 ghost use Rattle.uvl_reader.specs.LineKinds.{section_of};
+ghost use Rattle.uvl_reader.specs.Refusals.{IsRefused};
 ghost use Rattle.uvl_reader.specs.ModelReading.{model_of, is_features_line, features_number, reason_of_text};
 
 use crate::constraints::constraints_of;

@@ -1,6 +1,6 @@
 -- What the code has read of some lines, and what one line more does: the open lines with what is needed of them, in place of all
 -- the lines before.
-use Rattle.std.specs.Prelude.{◌≡◌, ℕ, ◌+◌, ◌/◌, ◌==◌, ◌&&◌, ◌||◌, not, nat_le, nat_lt, Bool, true, false, if◌then◌else◌, List, [], ◌∷◌, ◌++◌, length, Option, Some, None, Result, Ok, Err}
+use Rattle.std.specs.Prelude.{ℕ, ◌+◌, ◌/◌, ◌==◌, ◌&&◌, ◌||◌, not, nat_le, nat_lt, Bool, true, false, if◌then◌else◌, List, [], ◌∷◌, ◌++◌, length, Option, Some, None, Result, Ok, Err}
 use Rattle.std.specs.Option.{option_and_then, option_map, is_some, is_none}
 use Rattle.feature_tree.specs.declared.feature.Feature.{Feature}
 use Rattle.feature_tree.specs.declared.formula.Formula.{Formula}
@@ -31,6 +31,7 @@ use Rattle.uvl_reader.specs.LineKinds.{section_of, place_of, kind_under}
 use Rattle.uvl_reader.specs.Shapes.{FeatureShape, is_name, header_of, feature_of, is_unsupported}
 use Rattle.uvl_reader.specs.Attributes.{items_of, formulas_of_item}
 use Rattle.uvl_reader.specs.ModelReading.{reason_of_text}
+pub use Rattle.uvl_reader.specs.Refusals.{IsRefused}
 use Rattle.uvl_reader.specs.Refusals.{Refusal, first_of, fault_if, refusal_at, reason_of, section_alone}
 
 -- what is asked for, or the refusal
@@ -52,11 +53,6 @@ refuse line reason = Err (record { line = line; reason = reason })
 abbrev pub unless : {A : Type 0} → ℕ → Option Reason → OrRefused A → OrRefused A
 unless line None read = read
 unless line (Some fault) read = refuse line fault
-
--- the error is the refusal, unless it is want of memory
-abbrev pub IsRefused : {A : Type 0} → ModelError → OrRefused A → Type 0
-IsRefused (Refused line reason) read = read ≡ refuse line reason
-IsRefused Memory read = Unit {0}
 
 -- FORMULAS
 
