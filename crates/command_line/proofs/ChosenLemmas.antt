@@ -9,7 +9,7 @@ use Rattle.std.proofs.lemmas.Bool.{leb-true}
 use Rattle.std.proofs.lemmas.Option.{option_and_then_some, none-some, same_Some}
 use Rattle.std.proofs.lemmas.Slice.Eq.{bytes_eq-Decides}
 use Rattle.command_line.specs.Numbers.{number_of}
-use Rattle.command_line.specs.Words.{Settings, Request, Diagnose, names_a_file, Choice, Allowance, Rungs, words_of, may_be_chosen, allowance_of, rungs_of, AreOptions, Says, Chosen, nothing_chosen, chosen_with, choice_of, chosen_by, chosen_from, settings_of, request_of, WordsSayOneRequest}
+use Rattle.command_line.specs.Words.{Settings, Request, Diagnose, names_a_file, Choice, Allowance, Rungs, Listing, words_of, may_be_chosen, allowance_of, rungs_of, list_of, AreOptions, Says, Chosen, nothing_chosen, chosen_with, choice_of, chosen_by, chosen_from, settings_of, request_of, WordsSayOneRequest}
 use Rattle.command_line.proofs.NumbersLemmas.{number_says, number_decimal}
 
 -- what is chosen, as a list
@@ -22,6 +22,7 @@ record Adds (before now : Chosen) (choices : List Choice) : Type 0 where
   allowed : list_all may_be_chosen choices ≡ true
   allowance : as_list now.allowance ≡ as_list before.allowance ++ filter_map allowance_of choices
   rungs : as_list now.rungs ≡ as_list before.rungs ++ filter_map rungs_of choices
+  list : as_list now.list ≡ as_list before.list ++ filter_map list_of choices
 
 -- ---- tests
 
@@ -52,53 +53,75 @@ alone_first : (chosen : Option ℕ) (all : List ℕ) (d : ℕ) → as_list chose
 alone_first None all d e = (subst (λ (l : List ℕ). length l ≤ 1) e (omega arith), subst (λ (l : List ℕ). d ≡ slice_index_or l 0 d) e refl)
 alone_first (Some n) all d e = (subst (λ (l : List ℕ). length l ≤ 1) e (omega arith), subst (λ (l : List ℕ). n ≡ slice_index_or l 0 d) e refl)
 
-same_chosen : (x y : Chosen) → x.allowance ≡ y.allowance → x.rungs ≡ y.rungs → x ≡ y
-same_chosen x y a r =
-    subst (λ (o : Option ℕ). x ≡ (record { allowance = o; rungs = y.rungs })) a
-    (subst (λ (o : Option ℕ). x ≡ (record { allowance = x.allowance; rungs = o })) r refl)
+listed_first : (chosen : Option ℕ) (all : List ℕ) → as_list chosen ≡ all → (length all ≤ 1) × (chosen ≡ slice_get all 0)
+listed_first None all e = (subst (λ (l : List ℕ). length l ≤ 1) e (omega arith), subst (λ (l : List ℕ). None ≡ slice_get l 0) e refl)
+listed_first (Some n) all e = (subst (λ (l : List ℕ). length l ≤ 1) e (omega arith), subst (λ (l : List ℕ). Some n ≡ slice_get l 0) e refl)
+
+same_chosen : (x y : Chosen) → x.allowance ≡ y.allowance → x.rungs ≡ y.rungs → x.list ≡ y.list → x ≡ y
+same_chosen x y a r l =
+    subst (λ (o : Option ℕ). x ≡ (record { allowance = o; rungs = y.rungs; list = y.list })) a
+    (subst (λ (o : Option ℕ). x ≡ (record { allowance = x.allowance; rungs = o; list = y.list })) r
+    (subst (λ (o : Option ℕ). x ≡ (record { allowance = x.allowance; rungs = x.rungs; list = o })) l refl))
 
 -- ---- one option
 
-choice_by : (name : List ℕ) (value : ℕ) (choice : Choice) (a b : Bool) → bytes_eq name (codes "--allowance") ≡ a → bytes_eq name (codes "--rungs") ≡ b → choice_of name value ≡ Some choice → words_of choice ≡ name ∷ decimal value ∷ []
-choice_by name value choice true b p q e =
-    let is : name ≡ codes "--allowance" = (bytes_eq-Decides name (codes "--allowance")).0 p in
-    let chosen : Some (Allowance value) ≡ Some choice = rw p at e in
-    subst (λ (c : Choice). words_of c ≡ name ∷ decimal value ∷ []) (same_Some (Allowance value) choice chosen)
-    (ap (λ (n : List ℕ). n ∷ decimal value ∷ []) (sym is))
-choice_by name value choice false true p q e =
-    let is : name ≡ codes "--rungs" = (bytes_eq-Decides name (codes "--rungs")).0 q in
-    let chosen : Some (Rungs value) ≡ Some choice = rw (p, q) at e in
-    subst (λ (c : Choice). words_of c ≡ name ∷ decimal value ∷ []) (same_Some (Rungs value) choice chosen)
-    (ap (λ (n : List ℕ). n ∷ decimal value ∷ []) (sym is))
-choice_by name value choice false false p q e = let none : None ≡ Some choice = rw (p, q) at e in absurd (none-some choice none)
+-- the words of a choice of this name
+named : (name word : List ℕ) (value : ℕ) (made choice : Choice) → bytes_eq name word ≡ true → words_of made ≡ word ∷ decimal value ∷ [] → Some made ≡ Some choice → words_of choice ≡ name ∷ decimal value ∷ []
+named name word value made choice p words e =
+    subst (λ (c : Choice). words_of c ≡ name ∷ decimal value ∷ []) (same_Some made choice e)
+    (words ∙ ap (λ (n : List ℕ). n ∷ decimal value ∷ []) (sym ((bytes_eq-Decides name word).0 p)))
+
+choice_by : (name : List ℕ) (value : ℕ) (choice : Choice) (a b c : Bool) → bytes_eq name (codes "--allowance") ≡ a → bytes_eq name (codes "--rungs") ≡ b → bytes_eq name (codes "--list") ≡ c → choice_of name value ≡ Some choice → words_of choice ≡ name ∷ decimal value ∷ []
+choice_by name value choice true b c p q r e = named name (codes "--allowance") value (Allowance value) choice p refl (rw p at e)
+choice_by name value choice false true c p q r e = named name (codes "--rungs") value (Rungs value) choice q refl (rw (p, q) at e)
+choice_by name value choice false false true p q r e = named name (codes "--list") value (Listing value) choice r refl (rw (p, q, r) at e)
+choice_by name value choice false false false p q r e = let none : None ≡ Some choice = rw (p, q, r) at e in absurd (none-some choice none)
 
 -- the words of the option that a word and a number are
 choice_says : (name word : List ℕ) (value : ℕ) (choice : Choice) → word ≡ decimal value → choice_of name value ≡ Some choice → words_of choice ≡ name ∷ word ∷ []
 choice_says name word value choice w e =
-    choice_by name value choice (bytes_eq name (codes "--allowance")) (bytes_eq name (codes "--rungs")) refl refl e
+    choice_by name value choice (bytes_eq name (codes "--allowance")) (bytes_eq name (codes "--rungs")) (bytes_eq name (codes "--list")) refl refl refl e
     ∙ ap (λ (d : List ℕ). name ∷ d ∷ []) (sym w)
 
-allowance_added : (old rungs : Option ℕ) (may : Bool) (most : ℕ) (now : Chosen) → cond (is_none old && may) (Some (record { allowance = Some most; rungs = rungs })) None ≡ Some now → (may ≡ true) × (as_list now.allowance ≡ as_list old ++ most ∷ []) × (now.rungs ≡ rungs)
-allowance_added (Some n) rungs may most now e = absurd (none-some now e)
-allowance_added None rungs false most now e = absurd (none-some now e)
-allowance_added None rungs true most now e =
-    let is : (record { allowance = Some most; rungs = rungs }) ≡ now = same_Some (record { allowance = Some most; rungs = rungs }) now e in
-    (refl, ap (λ (c : Chosen). as_list c.allowance) (sym is), ap (λ (c : Chosen). c.rungs) (sym is))
+-- what is taken where it was not chosen before
+taken : (old : Option ℕ) (may : Bool) (next now : Chosen) → cond (is_none old && may) (Some next) None ≡ Some now → (may ≡ true) × (old ≡ None) × (next ≡ now)
+taken (Some n) may next now e = absurd (none-some now e)
+taken None false next now e = absurd (none-some now e)
+taken None true next now e = (refl, refl, same_Some next now e)
 
-rungs_added : (allowance old : Option ℕ) (may : Bool) (more : ℕ) (now : Chosen) → cond (is_none old && may) (Some (record { allowance = allowance; rungs = Some more })) None ≡ Some now → (may ≡ true) × (as_list now.rungs ≡ as_list old ++ more ∷ []) × (now.allowance ≡ allowance)
-rungs_added allowance (Some n) may more now e = absurd (none-some now e)
-rungs_added allowance None false more now e = absurd (none-some now e)
-rungs_added allowance None true more now e =
-    let is : (record { allowance = allowance; rungs = Some more }) ≡ now = same_Some (record { allowance = allowance; rungs = Some more }) now e in
-    (refl, ap (λ (c : Chosen). as_list c.rungs) (sym is), ap (λ (c : Chosen). c.allowance) (sym is))
+-- what is chosen now, and what was chosen before and stays
+joins : (old : Option ℕ) (n : ℕ) (now : Option ℕ) → old ≡ None → Some n ≡ now → as_list now ≡ as_list old ++ n ∷ []
+joins old n now none is = rw none (ap as_list (sym is))
+
+stays : (old now : Option ℕ) → old ≡ now → as_list now ≡ as_list old ++ []
+stays old now is = ap as_list (sym is) ∙ sym (append-nil (as_list old))
 
 one_added : (before now : Chosen) (choice : Choice) → chosen_with before choice ≡ Some now → Adds before now (choice ∷ [])
 one_added before now (Allowance most) e =
-    let a = allowance_added before.allowance before.rungs (may_be_chosen (Allowance most)) most now e in
-    record { allowed = rw a.0 refl; allowance = a.1; rungs = ap as_list a.2 ∙ sym (append-nil (as_list before.rungs)) }
+    let a = taken before.allowance (may_be_chosen (Allowance most)) (record before { allowance = Some most }) now e in
+    record {
+      allowed = rw a.0 refl;
+      allowance = joins before.allowance most now.allowance a.1 (ap (λ (c : Chosen). c.allowance) a.2);
+      rungs = stays before.rungs now.rungs (ap (λ (c : Chosen). c.rungs) a.2);
+      list = stays before.list now.list (ap (λ (c : Chosen). c.list) a.2);
+    }
 one_added before now (Rungs more) e =
-    let a = rungs_added before.allowance before.rungs (may_be_chosen (Rungs more)) more now e in
-    record { allowed = rw a.0 refl; allowance = ap as_list a.2 ∙ sym (append-nil (as_list before.allowance)); rungs = a.1 }
+    let a = taken before.rungs (may_be_chosen (Rungs more)) (record before { rungs = Some more }) now e in
+    record {
+      allowed = rw a.0 refl;
+      allowance = stays before.allowance now.allowance (ap (λ (c : Chosen). c.allowance) a.2);
+      rungs = joins before.rungs more now.rungs a.1 (ap (λ (c : Chosen). c.rungs) a.2);
+      list = stays before.list now.list (ap (λ (c : Chosen). c.list) a.2);
+    }
+one_added before now (Listing most) e =
+    let a = taken before.list (may_be_chosen (Listing most)) (record before { list = Some most }) now e in
+    record {
+      allowed = rw a.0 refl;
+      allowance = stays before.allowance now.allowance (ap (λ (c : Chosen). c.allowance) a.2);
+      rungs = stays before.rungs now.rungs (ap (λ (c : Chosen). c.rungs) a.2);
+      list = joins before.list most now.list a.1 (ap (λ (c : Chosen). c.list) a.2);
+    }
+
 
 cons_more : (found : Option ℕ) (others : List ℕ) → cons_option found others ≡ cons_option found [] ++ others
 cons_more None others = refl
@@ -107,16 +130,19 @@ cons_more (Some n) others = refl
 one_more : (choice : Choice) (pick : Choice → Option ℕ) (choices : List Choice) → filter_map pick (choice ∷ choices) ≡ filter_map pick (choice ∷ []) ++ filter_map pick choices
 one_more choice pick choices = cons_more (pick choice) (filter_map pick choices)
 
+both_parts : (before between now : Option ℕ) (pick : Choice → Option ℕ) (choice : Choice) (choices : List Choice) → as_list between ≡ as_list before ++ filter_map pick (choice ∷ []) → as_list now ≡ as_list between ++ filter_map pick choices → as_list now ≡ as_list before ++ filter_map pick (choice ∷ choices)
+both_parts before between now pick choice choices a b =
+    b ∙ ap (λ (l : List ℕ). l ++ filter_map pick choices) a
+    ∙ append_assoc (as_list before) (filter_map pick (choice ∷ [])) (filter_map pick choices)
+    ∙ ap (λ (l : List ℕ). as_list before ++ l) (sym (one_more choice pick choices))
+
 adds_more : (before between now : Chosen) (choice : Choice) (choices : List Choice) → Adds before between (choice ∷ []) → Adds between now choices → Adds before now (choice ∷ choices)
 adds_more before between now choice choices a b =
     record {
       allowed = rw (both (may_be_chosen choice) true a.allowed).0 b.allowed;
-      allowance = b.allowance ∙ ap (λ (l : List ℕ). l ++ filter_map allowance_of choices) a.allowance
-          ∙ append_assoc (as_list before.allowance) (filter_map allowance_of (choice ∷ [])) (filter_map allowance_of choices)
-          ∙ ap (λ (l : List ℕ). as_list before.allowance ++ l) (sym (one_more choice allowance_of choices));
-      rungs = b.rungs ∙ ap (λ (l : List ℕ). l ++ filter_map rungs_of choices) a.rungs
-          ∙ append_assoc (as_list before.rungs) (filter_map rungs_of (choice ∷ [])) (filter_map rungs_of choices)
-          ∙ ap (λ (l : List ℕ). as_list before.rungs ++ l) (sym (one_more choice rungs_of choices));
+      allowance = both_parts before.allowance between.allowance now.allowance allowance_of choice choices a.allowance b.allowance;
+      rungs = both_parts before.rungs between.rungs now.rungs rungs_of choice choices a.rungs b.rungs;
+      list = both_parts before.list between.list now.list list_of choice choices a.list b.list;
     }
 
 -- ---- any options
@@ -145,15 +171,13 @@ one_then_others before between now choice name value rest number n c w (choices,
 
 sound : (before now : Chosen) (words : List (List ℕ)) → chosen_from before words ≡ Some now → Makes before now words
 sound before now [] e =
-    let is : before ≡ now = same_Some before now e in (
-      [],
-      refl,
-      record {
-        allowed = refl;
-        allowance = ap (λ (c : Chosen). as_list c.allowance) (sym is) ∙ sym (append-nil (as_list before.allowance));
-        rungs = ap (λ (c : Chosen). as_list c.rungs) (sym is) ∙ sym (append-nil (as_list before.rungs));
-      },
-    )
+    let is : before ≡ now = same_Some before now e in
+    ([], refl, record {
+      allowed = refl;
+      allowance = stays before.allowance now.allowance (ap (λ (c : Chosen). c.allowance) is);
+      rungs = stays before.rungs now.rungs (ap (λ (c : Chosen). c.rungs) is);
+      list = stays before.list now.list (ap (λ (c : Chosen). c.list) is);
+    })
 sound before now (name ∷ []) e = absurd (none-some now e)
 sound before now (name ∷ value ∷ rest) e =
     option_and_then_some (λ (c : Chosen). chosen_from c rest) (chosen_by before name value) now e
@@ -161,45 +185,58 @@ sound before now (name ∷ value ∷ rest) e =
     (λ choice is with. option_and_then_some (choice_of name) (number_of value) choice is
     (λ number n c. one_then_others before between now choice name value rest number n c with (sound between now rest after))))
 
+-- without more options nothing changes
+unchanged : (before now : Option ℕ) → as_list now ≡ as_list before ++ [] → before ≡ now
+unchanged before now e = same_choice before now (sym (e ∙ append-nil (as_list before)))
+
 complete : (before now : Chosen) (choices : List Choice) → Adds before now choices → chosen_from before (flat_map words_of choices) ≡ Some now
 complete before now [] a =
-    ap Some (same_chosen before now (same_choice before.allowance now.allowance (sym (a.allowance ∙ append-nil (as_list before.allowance))))
-    (same_choice before.rungs now.rungs (sym (a.rungs ∙ append-nil (as_list before.rungs)))))
+    ap Some (same_chosen before now (unchanged before.allowance now.allowance a.allowance) (unchanged before.rungs now.rungs a.rungs) (unchanged before.list now.list a.list))
 complete before now (Allowance most ∷ choices) a =
     let may = both (may_be_chosen (Allowance most)) (list_all may_be_chosen choices) a.allowed in
     let new = room now.allowance before.allowance most (filter_map allowance_of choices) a.allowance in
     let small = leb-true most 1099511627776 may.0 in
-    let between : Chosen = record { allowance = Some most; rungs = before.rungs } in
+    let between : Chosen = record before { allowance = Some most } in
     let later : chosen_from between (flat_map words_of choices) ≡ Some now =
-    complete between now choices (record { allowed = may.1; allowance = rw new at a.allowance; rungs = a.rungs }) in
+    complete between now choices (record { allowed = may.1; allowance = rw new at a.allowance; rungs = a.rungs; list = a.list }) in
     rw (number_decimal most (omega arith), new, may.0) later
 complete before now (Rungs more ∷ choices) a =
     let may = both (may_be_chosen (Rungs more)) (list_all may_be_chosen choices) a.allowed in
     let new = room now.rungs before.rungs more (filter_map rungs_of choices) a.rungs in
     let small = leb-true more 4 may.0 in
-    let between : Chosen = record { allowance = before.allowance; rungs = Some more } in
+    let between : Chosen = record before { rungs = Some more } in
     let later : chosen_from between (flat_map words_of choices) ≡ Some now =
-    complete between now choices (record { allowed = may.1; allowance = a.allowance; rungs = rw new at a.rungs }) in
+    complete between now choices (record { allowed = may.1; allowance = a.allowance; rungs = rw new at a.rungs; list = a.list }) in
     rw (number_decimal more (omega arith), new, may.0) later
+complete before now (Listing most ∷ choices) a =
+    let may = both (may_be_chosen (Listing most)) (list_all may_be_chosen choices) a.allowed in
+    let new = room now.list before.list most (filter_map list_of choices) a.list in
+    let small = leb-true most 4096 may.0 in
+    let between : Chosen = record before { list = Some most } in
+    let later : chosen_from between (flat_map words_of choices) ≡ Some now =
+    complete between now choices (record { allowed = may.1; allowance = a.allowance; rungs = a.rungs; list = rw new at a.list }) in
+    rw (number_decimal most (omega arith), new, may.0) later
 
 -- ---- the whole
 
-same_settings : (x y : Settings) → x.allowance ≡ y.allowance → x.rungs ≡ y.rungs → x ≡ y
-same_settings x y a r =
-    subst (λ (n : ℕ). x ≡ (record { allowance = n; rungs = y.rungs })) a
-    (subst (λ (n : ℕ). x ≡ (record { allowance = x.allowance; rungs = n })) r refl)
+same_settings : (x y : Settings) → x.allowance ≡ y.allowance → x.rungs ≡ y.rungs → x.list ≡ y.list → x ≡ y
+same_settings x y a r l =
+    subst (λ (n : ℕ). x ≡ (record { allowance = n; rungs = y.rungs; list = y.list })) a
+    (subst (λ (n : ℕ). x ≡ (record { allowance = x.allowance; rungs = n; list = y.list })) r
+    (subst (λ (o : Option ℕ). x ≡ (record { allowance = x.allowance; rungs = x.rungs; list = o })) l refl))
 
 options_found : (options : List (List ℕ)) (settings : Settings) → AreOptions options settings → (chosen : Chosen) × (chosen_from nothing_chosen options ≡ Some chosen) × (settings ≡ settings_of chosen)
 options_found options settings a =
     let some = filter_map allowance_of a.choices in
     let more = filter_map rungs_of a.choices in
-    let chosen : Chosen = record { allowance = slice_get some 0; rungs = slice_get more 0 } in
+    let listed = filter_map list_of a.choices in
+    let chosen : Chosen = record { allowance = slice_get some 0; rungs = slice_get more 0; list = slice_get listed 0 } in
     let one = first_alone some a.one_allowance in
     let two = first_alone more a.one_rungs in
-    let found = complete nothing_chosen chosen a.choices (record { allowed = a.allowed; allowance = one; rungs = two }) in
+    let found = complete nothing_chosen chosen a.choices (record { allowed = a.allowed; allowance = one; rungs = two; list = first_alone listed a.one_list }) in
     let first = alone_first (slice_get some 0) some 10000 one in
     let second = alone_first (slice_get more 0) more 0 two in
-    (chosen, ap (chosen_from nothing_chosen) a.said ∙ found, same_settings settings (settings_of chosen) (a.allowance ∙ sym first.1) (a.rungs ∙ sym second.1))
+    (chosen, ap (chosen_from nothing_chosen) a.said ∙ found, same_settings settings (settings_of chosen) (a.allowance ∙ sym first.1) (a.rungs ∙ sym second.1) a.list)
 
 options_are : (options : List (List ℕ)) (chosen : Chosen) → chosen_from nothing_chosen options ≡ Some chosen → AreOptions options (settings_of chosen)
 options_are options chosen e =
@@ -207,7 +244,8 @@ options_are options chosen e =
     let adds = made.2 in
     let one = alone_first chosen.allowance (filter_map allowance_of made.0) 10000 adds.allowance in
     let two = alone_first chosen.rungs (filter_map rungs_of made.0) 0 adds.rungs in
-    record { choices = made.0; said = made.1; allowed = adds.allowed; one_allowance = one.0; one_rungs = two.0; allowance = one.1; rungs = two.1 }
+    let three = listed_first chosen.list (filter_map list_of made.0) adds.list in
+    record { choices = made.0; said = made.1; allowed = adds.allowed; one_allowance = one.0; one_rungs = two.0; one_list = three.0; allowance = one.1; rungs = two.1; list = three.1 }
 
 -- the request of two files with these options
 said_by : (model config : List ℕ) (options : List (List ℕ)) (request : Request) (found : Option Chosen) → IsTrue (names_a_file model) → IsTrue (names_a_file config) → chosen_from nothing_chosen options ≡ found → option_map (λ (c : Chosen). Diagnose model config (settings_of c)) found ≡ Some request → Says (codes "diagnose" ∷ model ∷ config ∷ options) request

@@ -8,7 +8,7 @@ abbrev with : List (List ℕ) → List (List ℕ)
 with options = codes "diagnose" ∷ codes "m" ∷ codes "c" ∷ options
 
 abbrev set : ℕ → ℕ → Option Request
-set allowance rungs = Some (Diagnose (codes "m") (codes "c") (record { allowance = allowance; rungs = rungs }))
+set allowance rungs = Some (Diagnose (codes "m") (codes "c") (record { allowance = allowance; rungs = rungs; list = None }))
 
 pub no_options : request_of (with []) ≡ set 10000 0
 no_options = refl
@@ -24,6 +24,16 @@ most_allowance = refl
 
 pub one_more : request_of (with (codes "--allowance" ∷ codes "1099511627777" ∷ [])) ≡ None
 one_more = refl
+
+-- listed up to no size is something else than not listed
+pub list_none : request_of (with (codes "--list" ∷ codes "0" ∷ [])) ≡ Some (Diagnose (codes "m") (codes "c") (record { allowance = 10000; rungs = 0; list = Some 0 }))
+list_none = refl
+
+pub list_zero_in_front : request_of (with (codes "--list" ∷ codes "03" ∷ [])) ≡ None
+list_zero_in_front = refl
+
+pub list_too_long : request_of (with (codes "--list" ∷ codes "4097" ∷ [])) ≡ None
+list_too_long = refl
 
 pub five_rungs : request_of (with (codes "--rungs" ∷ codes "5" ∷ [])) ≡ None
 five_rungs = refl

@@ -10,12 +10,14 @@ use crate::options::Options;
 #[derive(Clone, Copy, Debug, PartialEq, Eq)]
 pub enum Command<'a> {
     /// The advice for a configuration of a model, given the names of the two files. The first attempt of a check may learn
-    /// `allowance` clauses, and `rungs` more attempts may follow, each with ten times as many.
+    /// `allowance` clauses, and `rungs` more attempts may follow, each with ten times as many. The minimal diagnoses up to the
+    /// size `list` are listed, if it is there.
     Diagnose {
         model: &'a str,
         config: &'a str,
         allowance: u64,
         rungs: u8,
+        list: Option<u32>,
     },
 }
 
@@ -46,6 +48,7 @@ fn command_of<'a>(words: &'a [String]) -> Option<Command<'a>>
         config,
         allowance: options.allowance(),
         rungs: options.rungs(),
+        list: options.list(),
     })
 }
 

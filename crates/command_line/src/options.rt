@@ -1,7 +1,7 @@
 //! The options of a command line, in any order and each at most once.
 ghost use Rattle.std.specs.Prelude.{◌≡◌, map, option_map, unwrap_or, IfSome};
 ghost use Rattle.std.specs.String.{string_bytes};
-ghost use Rattle.command_line.specs.Words.{AreAllowed, settings_of, Allowance, Rungs, chosen_with, chosen_by, chosen_from, nothing_chosen};
+ghost use Rattle.command_line.specs.Words.{AreAllowed, settings_of, Allowance, Listing, Rungs, chosen_with, chosen_by, chosen_from, nothing_chosen};
 ghost use Rattle.command_line.specs.inside.Chosen.{chosen};
 
 use crate::number::number_of;
@@ -12,11 +12,15 @@ const MOST_ALLOWED: u64 = 1 << 40;
 /// How many more attempts there may be.
 const MOST_RUNGS: u64 = 4;
 
+/// Up to which size diagnoses may be listed.
+const MOST_LISTED: u64 = 4_096;
+
 /// What the options read so far choose.
 #[derive(Clone, Copy, Debug)]
 pub struct Options {
     allowance: Option<u64>,
     rungs: Option<u8>,
+    list: Option<u32>,
 }
 
 impl Options {
@@ -28,6 +32,7 @@ impl Options {
         let mut options = Options {
             allowance: None,
             rungs: None,
+            list: None,
         };
         let mut rest = words;
         'options: while let Some((name, after)) = rest.split_first() {
@@ -49,6 +54,8 @@ impl Options {
             self.with_allowance(number)
         } else if name == "--rungs" {
             self.with_rungs(number)
+        } else if name == "--list" {
+            self.with_list(number)
         } else {
             None
         }
@@ -76,6 +83,25 @@ impl Options {
         }
         let rungs = Some(more as u8);
         Some(Options { rungs, ..self })
+    }
+
+    fn with_list(self, most: u64) -> Option<Options>
+        requires { AreAllowed (settings_of (chosen self)) }
+        ensures allowed { IfSome result (λ options. AreAllowed (settings_of (chosen options))) }
+        ensures chosen { chosen_with (chosen self) (Listing most) ≡ option_map chosen result }
+    {
+        if self.list.is_some() || most > MOST_LISTED {
+            return None;
+        }
+        let list = Some(most as u32);
+        Some(Options { list, ..self })
+    }
+
+    /// Up to which size the minimal diagnoses are listed, if they are.
+    pub fn list(self) -> Option<u32>
+        ensures { result ≡ self.list }
+    {
+        self.list
     }
 
     /// How many clauses the first attempt of a check may learn.

@@ -23,6 +23,7 @@ fn words_are_read(rt: HostRuntime) -> Result<(), Fail> {
         config: "c",
         allowance: 70,
         rungs: 2,
+        list: None,
     };
     assert_eq!(rt; command, Some(said));
     assert_eq!(rt; Status::TooLarge.code(), 67);
