@@ -1,4 +1,15 @@
-pub mod Sets
-pub mod Levels
+pub mod PositionSets
+pub mod LevelSets
 pub mod Listings
 pub mod OneListing
+pub mod ToldAnswers
+pub mod FoundLists
+pub mod SetSteps
+pub mod Findings
+pub mod ChildKeys
+pub mod MadeLevels
+pub mod GrowsLaws
+pub mod LevelsLeft
+pub mod AsksNew
+pub mod AskedSets
+pub mod Standing

@@ -24,8 +24,8 @@ use Rattle.req_keys.proofs.MemberLaws.{Contains-from_has, has-from_Contains}
 use Rattle.req_keys.proofs.PositionsLaws.{RiseWithin-filter_range}
 use Rattle.hs_tree.specs.Tree.{Outcome, asks, ends, Standing, without, is_within, is_apart, known_label, with_children, with_found, by_label, by_conflict, by_rest, by_known, one_set, further, one_level, levels, tree, found_by, next_of}
 use Rattle.hs_tree.specs.Listing.{IsDiagnosis, IsMinimalDiagnosis, AreInOrder, AreMinimalDiagnoses, IsListing}
-use Rattle.hs_tree.proofs.Sets.{fewer-within, same-within, rises-in_range, passes-not_false, without-out, without-range, without-in, within-from, within-to, apart-from, child-within, child-rises, child-length}
-use Rattle.hs_tree.proofs.Levels.{AreSorted, children-cases, children-old, children-new, children-sorted, before-by_size, before-in_level}
+use Rattle.hs_tree.proofs.PositionSets.{fewer-within, same-within, rises-in_range, passes-not_false, without-out, without-range, without-in, within-from, within-to, apart-from, child-within, child-rises, child-length}
+use Rattle.hs_tree.proofs.LevelSets.{AreSorted, children-cases, children-old, children-new, children-sorted, before-by_size, key-order}
 
 -- one set more, behind all others
 order-push : (n : ℕ) (sets : List (List ℕ)) (set : List ℕ) → AreInOrder n sets → ((one : List ℕ) → Contains sets one → key_cmp (key_over n one) (key_over n set) ≡ Less) → AreInOrder n (sets ++ set ∷ [])
@@ -210,7 +210,7 @@ module _ (P : List ℕ → Type 0) (fewer : PassesToFewer P) (n : ℕ) (table : 
         };
         ahead = λ a b m k.
             one (λ x. key_cmp (key_over n x) (key_over n b) ≡ Less) (λ x l. h.ahead x b l (contains_later set sets b k))
-            (let much : length b ≡ size = (h.level b (contains_later set sets b k)).many in before-in_level n set b (omega arith) (h.sorted.0 b k)) a m;
+            (key-order n set b ∙ h.sorted.0 b k) a m;
         known = h.known;
         level = λ x m. h.level x (contains_later set sets x m);
         sorted = h.sorted.1;

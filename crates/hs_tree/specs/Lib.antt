@@ -1,3 +1,5 @@
 pub mod Examples
+pub mod Hitting
 pub mod Listing
 pub mod Tree
+pub mod inside

@@ -1,9 +1,9 @@
 -- The hitting-set tree over a table of answers (after Reiter 1987), for minimal diagnoses of the positions 1, 2, .., n up to
 -- a size. That it goes level by level, which labels are used again, and in which order sets are taken, is own to this project.
-use Rattle.std.specs.Prelude.{ℕ, zero, suc, Bool, true, false, not, Option, Some, None, List, [], ◌∷◌, ◌++◌, fold, if◌then◌else◌}
+use Rattle.std.specs.Prelude.{ℕ, zero, suc, Bool, true, false, not, Option, Some, None, List, [], ◌∷◌, ◌++◌, length, fold, if◌then◌else◌}
 use Rattle.std.specs.Cmp.Lexicographic.{slice_cmp}
 use Rattle.std.specs.List.{list_any, list_all}
-use Rattle.std.specs.Ordering.{nat_cmp}
+use Rattle.std.specs.Ordering.{nat_cmp, on, flip_args, then_cmp}
 use Rattle.std.specs.declared.cmp.Ordering.{Ordering}
 use Rattle.std.specs.declared.cmp.Ordering.TheVariants.{Less, Equal, Greater}
 use Rattle.pref_sets.specs.Answers.{Answer, Next, answer_to}
@@ -24,20 +24,22 @@ is_apart a b = list_all (λ position. not (has b position)) a
 abbrev pub without : ℕ → List ℕ → List ℕ
 without n set = positions_where n (λ position. not (has set position))
 
--- By how the first of a level's other sets compares with the set, as lists: the set goes before it, or is the same, or goes
--- behind it.
+-- the order of diagnoses: fewer positions first, and of two ascending sets of one size the one that lacks the first position
+-- which only one of them has, as it has the greater position at the first place where their lists differ
+abbrev pub set_cmp : List ℕ → List ℕ → Ordering
+set_cmp = then_cmp (on (λ set. length set) nat_cmp) (flip_args (slice_cmp nat_cmp))
+
+-- by how a set compares with another: it goes before that one, is the same, or goes behind it
 abbrev pub by_place : Ordering → List (List ℕ) → List (List ℕ) → List (List ℕ) → List (List ℕ)
 by_place Less before same behind = before
 by_place Equal before same behind = same
 by_place Greater before same behind = behind
 
--- A sorted level and one more set of as many positions, at its place; one that is there stays once. Of two ascending sets the
--- one that lacks the first position which only one of them has comes first: the one with the greater position at the first
--- place where their lists differ.
+-- a sorted level and one more set at its place; one that is there stays once
 abbrev pub with_set : List (List ℕ) → List ℕ → List (List ℕ)
 with_set [] set = set ∷ []
 with_set (first ∷ sets) set =
-    by_place (slice_cmp nat_cmp first set) (set ∷ first ∷ sets) (first ∷ sets) (first ∷ with_set sets set)
+    by_place (set_cmp set first) (set ∷ first ∷ sets) (first ∷ sets) (first ∷ with_set sets set)
 
 -- the next level with the sets that come from one set: the set with one position of its label, for each of them
 abbrev pub with_children : List ℕ → List ℕ → List (List ℕ) → List (List ℕ)

@@ -1,27 +1,37 @@
 -- The sets of a level: which sets it has, and that they stand in order.
-use Rattle.std.proofs.Common.{◌≡◌, ℕ, ◌<◌, List, [], ◌∷◌, ◌⊎◌, inl, inr, length, refl, ◌∙◌, ap, subst, ⊎_elim, arith}
+use Rattle.std.proofs.Common.{sym, ◌≡◌, ℕ, ◌<◌, List, [], ◌∷◌, ◌⊎◌, inl, inr, length, refl, ◌∙◌, ap, subst, ⊎_elim, arith}
 use Rattle.std.specs.Prelude.{Contains}
 use Rattle.std.specs.declared.cmp.Ordering.{Ordering}
 use Rattle.std.specs.declared.cmp.Ordering.TheVariants.{Less, Equal, Greater}
 use Rattle.std.specs.Ordering.{nat_cmp, ordering_reverse}
-use Rattle.std.specs.Cmp.Lexicographic.{slice_cmp}
-use Rattle.std.proofs.lemmas.Cmp.{nat_list_cmp_total}
-use Rattle.std.proofs.lemmas.Map.Lookups.{exact_bytes}
+use Rattle.std.specs.Cmp.{IsTotalOrder}
+use Rattle.std.specs.Cmp.Rules.{comparing}
+use Rattle.std.proofs.Common.{rules}
 use Rattle.std.proofs.lemmas.Bool.{eq-eqb, lt-ltb, le-ltb}
 use Rattle.lists.proofs.Members.{first as contains_first, later as contains_later, none as contains_none, first_or_later}
 use Rattle.pref_sets.specs.Positions.{with_position}
+use Rattle.req_keys.specs.Key.{PositionSet}
 use Rattle.req_keys.specs.Order.{key_cmp}
+use Rattle.req_keys.proofs.OrderLaws.{equal_is_one}
 use Rattle.req_keys.specs.Wanting.{key_over}
-use Rattle.hs_tree.specs.Tree.{by_place, with_set, with_children}
+use Rattle.hs_tree.specs.Tree.{by_place, set_cmp, with_set, with_children}
 
--- each set comes before those behind it, as sets of one size
+-- each set comes before those behind it
 abbrev pub AreSorted : List (List ℕ) → Type 0
 AreSorted [] = Unit {0}
-AreSorted (set ∷ sets) = ((other : List ℕ) → Contains sets other → slice_cmp nat_cmp other set ≡ Less) × AreSorted sets
+AreSorted (set ∷ sets) = ((other : List ℕ) → Contains sets other → set_cmp set other ≡ Less) × AreSorted sets
+
+set_total : IsTotalOrder set_cmp
+set_total = search (comparing, rules)
+
+equal-sets : (a b : List ℕ) → set_cmp a b ≡ Equal → a ≡ b
+equal-sets a b e =
+    let members : PositionSet → List ℕ = λ key. key.members in
+    ap members (equal_is_one (key_over 0 a) (key_over 0 b) e)
 
 pub with_set-cases : (sets : List (List ℕ)) (set x : List ℕ) → Contains (with_set sets set) x → (set ≡ x) ⊎ Contains sets x
 with_set-cases [] set x m = first_or_later set [] x m
-with_set-cases (one ∷ sets) set x m = case (λ l. with_set-cases sets set x l) (slice_cmp nat_cmp one set) m
+with_set-cases (one ∷ sets) set x m = case (λ l. with_set-cases sets set x l) (set_cmp set one) m
   where
     case : (Contains (with_set sets set) x → (set ≡ x) ⊎ Contains sets x) → (o : Ordering) → Contains (by_place o (set ∷ one ∷ sets) (one ∷ sets) (one ∷ with_set sets set)) x → (set ≡ x) ⊎ Contains (one ∷ sets) x
     case rest Less m = first_or_later set (one ∷ sets) x m
@@ -34,7 +44,7 @@ with_set-cases (one ∷ sets) set x m = case (λ l. with_set-cases sets set x l)
 
 pub with_set-old : (sets : List (List ℕ)) (set x : List ℕ) → Contains sets x → Contains (with_set sets set) x
 with_set-old [] set x m = absurd (contains_none x m)
-with_set-old (one ∷ sets) set x m = case (λ l. with_set-old sets set x l) (slice_cmp nat_cmp one set)
+with_set-old (one ∷ sets) set x m = case (λ l. with_set-old sets set x l) (set_cmp set one)
   where
     case : (Contains sets x → Contains (with_set sets set) x) → (o : Ordering) → Contains (by_place o (set ∷ one ∷ sets) (one ∷ sets) (one ∷ with_set sets set)) x
     case rest Less = contains_later set (one ∷ sets) x m
@@ -47,26 +57,26 @@ with_set-old (one ∷ sets) set x m = case (λ l. with_set-old sets set x l) (sl
 
 pub with_set-has : (sets : List (List ℕ)) (set : List ℕ) → Contains (with_set sets set) set
 with_set-has [] set = contains_first set []
-with_set-has (one ∷ sets) set = case (with_set-has sets set) (slice_cmp nat_cmp one set) refl
+with_set-has (one ∷ sets) set = case (with_set-has sets set) (set_cmp set one) refl
   where
-    case : Contains (with_set sets set) set → (o : Ordering) → slice_cmp nat_cmp one set ≡ o → Contains (by_place o (set ∷ one ∷ sets) (one ∷ sets) (one ∷ with_set sets set)) set
+    case : Contains (with_set sets set) set → (o : Ordering) → set_cmp set one ≡ o → Contains (by_place o (set ∷ one ∷ sets) (one ∷ sets) (one ∷ with_set sets set)) set
     case rest Less e = contains_first set (one ∷ sets)
-    case rest Equal e = let same : one ≡ set = exact_bytes one set e in subst (Contains (one ∷ sets)) same (contains_first one sets)
+    case rest Equal e = let same : one ≡ set = sym (equal-sets set one e) in subst (Contains (one ∷ sets)) same (contains_first one sets)
     case rest Greater e = contains_later one (with_set sets set) set rest
 
-turned : (a b : List ℕ) → slice_cmp nat_cmp a b ≡ Greater → slice_cmp nat_cmp b a ≡ Less
-turned a b e = nat_list_cmp_total.antisymm b a ∙ ap ordering_reverse e
+turned : (a b : List ℕ) → set_cmp a b ≡ Greater → set_cmp b a ≡ Less
+turned a b e = set_total.antisymm b a ∙ ap ordering_reverse e
 
 pub with_set-sorted : (sets : List (List ℕ)) (set : List ℕ) → AreSorted sets → AreSorted (with_set sets set)
 with_set-sorted [] set h = ((λ other m. absurd (contains_none other m)), tt)
-with_set-sorted (one ∷ sets) set h = case (with_set-sorted sets set h.1) (slice_cmp nat_cmp one set) refl
+with_set-sorted (one ∷ sets) set h = case (with_set-sorted sets set h.1) (set_cmp set one) refl
   where
-    case : AreSorted (with_set sets set) → (o : Ordering) → slice_cmp nat_cmp one set ≡ o → AreSorted (by_place o (set ∷ one ∷ sets) (one ∷ sets) (one ∷ with_set sets set))
+    case : AreSorted (with_set sets set) → (o : Ordering) → set_cmp set one ≡ o → AreSorted (by_place o (set ∷ one ∷ sets) (one ∷ sets) (one ∷ with_set sets set))
     case rest Less e = (
       (λ other m.
           ⊎_elim
-          (λ (same : one ≡ other). subst (λ (x : List ℕ). slice_cmp nat_cmp x set ≡ Less) same e)
-          (λ (l : Contains sets other). nat_list_cmp_total.trans other one set (h.0 other l) e)
+          (λ (same : one ≡ other). subst (λ (x : List ℕ). set_cmp set x ≡ Less) same e)
+          (λ (l : Contains sets other). set_total.trans set one other e (h.0 other l))
           (first_or_later one sets other m)),
       h,
     )
@@ -74,7 +84,7 @@ with_set-sorted (one ∷ sets) set h = case (with_set-sorted sets set h.1) (slic
     case rest Greater e = (
       (λ other m.
           ⊎_elim
-          (λ (same : set ≡ other). subst (λ (x : List ℕ). slice_cmp nat_cmp x one ≡ Less) same (turned one set e))
+          (λ (same : set ≡ other). subst (λ (x : List ℕ). set_cmp one x ≡ Less) same (turned set one e))
           (λ (l : Contains sets other). h.0 other l)
           (with_set-cases sets set other m)),
       rest,
@@ -117,9 +127,9 @@ same-numbers x y e = rw (le-ltb x y (omega arith), eq-eqb x y e) refl
 less-numbers : (x y : ℕ) → x < y → nat_cmp x y ≡ Less
 less-numbers x y l = rw (lt-ltb x y l) refl
 
--- the order of diagnoses: by size, and within a size as in a level
-pub before-by_size : (n : ℕ) (a b : List ℕ) → length a < length b → key_cmp (key_over n a) (key_over n b) ≡ Less
-before-by_size n a b l = rw (same-numbers n n refl, less-numbers (length a) (length b) l) refl
+-- the order of keys over one number of positions is that of sets
+pub key-order : (n : ℕ) (a b : List ℕ) → key_cmp (key_over n a) (key_over n b) ≡ set_cmp a b
+key-order n a b = rw (same-numbers n n refl) refl
 
-pub before-in_level : (n : ℕ) (a b : List ℕ) → length a ≡ length b → slice_cmp nat_cmp b a ≡ Less → key_cmp (key_over n a) (key_over n b) ≡ Less
-before-in_level n a b e l = rw (same-numbers n n refl, same-numbers (length a) (length b) e) l
+pub before-by_size : (n : ℕ) (a b : List ℕ) → length a < length b → key_cmp (key_over n a) (key_over n b) ≡ Less
+before-by_size n a b l = key-order n a b ∙ rw (less-numbers (length a) (length b) l) refl

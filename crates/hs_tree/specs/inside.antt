@@ -1,0 +1,5 @@
+pub mod Left
+pub mod Places
+pub mod Standing
+pub mod Steps
+pub mod Told
