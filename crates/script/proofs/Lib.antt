@@ -1,0 +1,5 @@
+pub mod JobAsks
+pub mod Lookups
+pub mod RightOutcomes
+pub mod SequentialRuns
+pub mod TreeAsks

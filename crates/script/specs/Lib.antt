@@ -1,3 +1,4 @@
 pub mod Examples
 pub mod Job
+pub mod Right
 pub mod Sequential

@@ -3,5 +3,7 @@
 #![tactic(auto)]
 
 mod job;
+mod laws;
 
 pub use job::{JobPlan, Outcome, Part, Parts};
+pub use laws::{job_asks_new_keys, outcome_is_right, run_goes_on, sequential_run_ends};
