@@ -122,7 +122,6 @@ one_added before now (Listing most) e =
       list = joins before.list most now.list a.1 (ap (λ (c : Chosen). c.list) a.2);
     }
 
-
 cons_more : (found : Option ℕ) (others : List ℕ) → cons_option found others ≡ cons_option found [] ++ others
 cons_more None others = refl
 cons_more (Some n) others = refl
@@ -171,13 +170,16 @@ one_then_others before between now choice name value rest number n c w (choices,
 
 sound : (before now : Chosen) (words : List (List ℕ)) → chosen_from before words ≡ Some now → Makes before now words
 sound before now [] e =
-    let is : before ≡ now = same_Some before now e in
-    ([], refl, record {
-      allowed = refl;
-      allowance = stays before.allowance now.allowance (ap (λ (c : Chosen). c.allowance) is);
-      rungs = stays before.rungs now.rungs (ap (λ (c : Chosen). c.rungs) is);
-      list = stays before.list now.list (ap (λ (c : Chosen). c.list) is);
-    })
+    let is : before ≡ now = same_Some before now e in (
+      [],
+      refl,
+      record {
+        allowed = refl;
+        allowance = stays before.allowance now.allowance (ap (λ (c : Chosen). c.allowance) is);
+        rungs = stays before.rungs now.rungs (ap (λ (c : Chosen). c.rungs) is);
+        list = stays before.list now.list (ap (λ (c : Chosen). c.list) is);
+      },
+    )
 sound before now (name ∷ []) e = absurd (none-some now e)
 sound before now (name ∷ value ∷ rest) e =
     option_and_then_some (λ (c : Chosen). chosen_from c rest) (chosen_by before name value) now e

@@ -1,7 +1,6 @@
-pub mod Texts
 pub mod Puts
 pub mod Runs
-pub mod Explaining
-pub mod RightOutcome
 pub mod MustsLemmas
+pub mod JobLaws
+pub mod AnswerLaws
 pub mod AdviceLaws

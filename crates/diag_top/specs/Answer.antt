@@ -1,6 +1,6 @@
 -- What a command line is answered, from the bytes of its files to the status and the text (own to this project). The order of
 -- work: words; model fetched; model read; configuration fetched; configuration read; clause form; checks.
-use Rattle.std.specs.Prelude.{ℕ, nat_lt, List, [], ◌∷◌, Option, Some, None, Result, Ok, Err, if◌then◌else◌}
+use Rattle.std.specs.Prelude.{ℕ, ◌+◌, nat_lt, List, [], ◌∷◌, length, unwrap_or, option_map, Option, Some, None, Result, Ok, Err, if◌then◌else◌}
 use Rattle.std.specs.String.{string_bytes}
 use Rattle.command_line.specs.Words.{Settings, Request, Diagnose, request_of}
 use Rattle.command_line.specs.declared.status.Status.{Status}
@@ -16,11 +16,14 @@ use Rattle.diag_base.specs.declared.shelf.Fetched.TheVariants.{Whole, Longer}
 use Rattle.feature_tree.specs.FeatureModel.{FeatureModel}
 use Rattle.uvl_reader.specs.ModelReading.{model_of}
 use Rattle.uvl_reader.specs.Refusals.{Refusal}
-use Rattle.diag_top.specs.declared.job.Outcome.{Outcome}
-use Rattle.diag_top.specs.declared.job.Outcome.TheVariants as outcome
-use Rattle.diag_top.specs.Job.{outcome_of}
+use Rattle.req_keys.specs.Key.{PositionSet}
+use Rattle.req_keys.specs.declared.verdict.Verdict.{Verdict}
+use Rattle.report.specs.Report.{report}
+use Rattle.script.specs.declared.job.JobPlan.{JobPlan}
+use Rattle.script.specs.declared.job.Outcome.{Outcome}
+use Rattle.script.specs.declared.job.Outcome.TheVariants as outcome
+use Rattle.script.specs.Sequential.{needs, result_of, verdicts_of}
 use Rattle.diag_top.specs.Refusals.{words_refused, model_too_long, model_refused, config_too_long, config_refused, too_large}
-use Rattle.diag_top.specs.Report.{report}
 use Rattle.diag_top.specs.Work.{Reply, Model, Config, Work, Done, Fetch, replied}
 
 -- how many bytes a model file or a configuration may have
@@ -35,26 +38,55 @@ MOST_VARIABLES = 1000000
 abbrev pub status_of : Outcome → Status
 status_of outcome.Consistent = status.Consistent
 status_of outcome.Background = status.Background
-status_of (outcome.Explained kept) = status.Explained
-status_of (outcome.LimitAt part key) = status.Limit
+status_of (outcome.Explained parts) = status.Explained
+status_of (outcome.LimitAt part key before) = status.Limit
 
--- what is found out about a configuration of a model
-abbrev pub first_of : FeatureModel → Configuration → Settings → Outcome
-first_of model config settings = outcome_of (problem_of model config settings.allowance settings.rungs)
+-- how a job ended, and how many checks it needed
+pub record Judged : Type 0 where
+  pub outcome : Outcome
+  pub checks : ℕ
 
--- Where nothing can be met and there are musts, a second job is about them: each may be given up now.
-abbrev pub second_of : FeatureModel → Configuration → Settings → Outcome → List Requirement → Option Outcome
-second_of model config settings outcome.Background (must ∷ musts) = Some (first_of model (of_musts config) settings)
+abbrev pub plan_of : Configuration → Option ℕ → JobPlan
+plan_of config list = record { requirements = length config.requirements; list = list }
+
+-- the verdict on each key of the requirements
+abbrev pub verdicts : FeatureModel → Configuration → Settings → PositionSet → Verdict
+verdicts model config settings = verdicts_of (problem_of model config settings.allowance settings.rungs)
+
+-- The job about a configuration of a model, which lists minimal diagnoses up to a size or not at all: the sequential run over
+-- the verdicts. It always has an outcome.
+abbrev pub judged : FeatureModel → Configuration → Settings → Option ℕ → Judged
+judged model config settings list = record {
+  outcome = unwrap_or (result_of (plan_of config list) (verdicts model config settings)) outcome.Background;
+  checks = length (needs (plan_of config list) (verdicts model config settings));
+}
+
+-- Where nothing can be met and there are musts, a second job is about them: each may be given up now, and nothing is listed.
+abbrev pub second_of : FeatureModel → Configuration → Settings → Outcome → List Requirement → Option Judged
+second_of model config settings outcome.Background (must ∷ musts) = Some (judged model (of_musts config) settings None)
 second_of model config settings _ _ = None
 
-abbrev pub reported : FeatureModel → Configuration → Outcome → Option Outcome → Reply
-reported model config first second = record { status = status_of first; text = report model config first second }
+-- the checks of both jobs
+abbrev pub checks_of : Judged → Option Judged → ℕ
+checks_of first None = first.checks
+checks_of first (Some second) = first.checks + second.checks
+
+abbrev pub reported : FeatureModel → Configuration → Settings → Judged → Option Judged → Reply
+reported model config settings first second = record {
+  status = status_of first.outcome;
+  text = report model config settings.list first.outcome (option_map (λ job. job.outcome) second)
+      (record { checks = checks_of first second; predicted = 0; wasted = 0 });
+}
+
+-- with what the job about the configuration came to
+abbrev pub reported_after : FeatureModel → Configuration → Settings → Judged → Reply
+reported_after model config settings first = reported model config settings first (second_of model config settings first.outcome config.musts)
 
 -- the advice for a configuration of a model
 abbrev pub advice : FeatureModel → Configuration → Settings → Reply
 advice model config settings =
     if nat_lt MOST_VARIABLES (needed model config) then too_large (needed model config)
-    else reported model config (first_of model config settings) (second_of model config settings (first_of model config settings) config.musts)
+    else reported_after model config settings (judged model config settings settings.list)
 
 -- once the configuration is read
 abbrev pub with_config : FeatureModel → Settings → Result Configuration ConfigError → Reply

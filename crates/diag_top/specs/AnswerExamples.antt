@@ -11,7 +11,7 @@ use Rattle.uvl_lex.specs.Examples.{computing as text_computing}
 use Rattle.uvl_reader.specs.ModelReading.{model_of}
 use Rattle.diag_top.specs.Answer.{answer}
 use Rattle.diag_top.specs.Refusals.{words_refused}
-use Rattle.diag_top.specs.Report.{line}
+use Rattle.report.specs.Lines.{line}
 
 -- a model m and a configuration c
 abbrev two_files : List ℕ → List ℕ → Files

@@ -1,11 +1,7 @@
 pub mod Work
-pub mod Job
-pub mod Report
 pub mod Refusals
 pub mod Answer
 pub mod Run
 pub mod Laws
-pub mod JobExamples
-pub mod ReportExamples
 pub mod AnswerExamples
 pub mod inside

@@ -9,7 +9,7 @@ use Rattle.config_reader.specs.declared.error.Reason.TheVariants as in_config
 use Rattle.uvl_reader.specs.Refusals.{Refusal}
 use Rattle.uvl_reader.specs.declared.error.Reason.{Reason as ModelReason}
 use Rattle.uvl_reader.specs.declared.error.Reason.TheVariants as in_model
-use Rattle.diag_top.specs.Report.{line}
+use Rattle.report.specs.Lines.{line}
 use Rattle.diag_top.specs.Work.{Reply}
 
 abbrev pub words_refused : Reply

@@ -4,7 +4,7 @@ use Rattle.command_line.specs.declared.status.Status.{Status}
 use Rattle.command_line.specs.declared.status.Status.TheVariants as status
 use Rattle.diag_base.specs.Faults.{Rises}
 use Rattle.diag_base.specs.Shelf.{Files}
-use Rattle.diag_top.specs.Report.{line}
+use Rattle.report.specs.Lines.{line}
 use Rattle.diag_top.specs.Work.{Reply, Role, Model, Config, Work, replied, ComesTo}
 
 -- what is written where a file could not be fetched

@@ -1,2 +1,2 @@
 pub mod Follows
-pub mod Limits
+pub mod Jobs

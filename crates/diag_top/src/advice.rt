@@ -1,25 +1,32 @@
 //! The advice for a configuration of a model.
-ghost use Rattle.std.specs.Prelude.{◌≡◌, ◌≤◌, ◌<◌, ◌^◌, IfOk, length, option_map};
+ghost use Rattle.std.specs.Prelude.{◌≡◌, ◌≤◌, IfOk, IfSome, None, length, option_map};
+ghost use Rattle.command_line.specs.Words.{AreAllowed};
 ghost use Rattle.config_reader.specs.Laws.{IsStated};
 ghost use Rattle.clause_form.specs.ClauseForm.{needed};
-ghost use Rattle.diag_top.specs.Answer.{advice, second_of, status_of};
-ghost use Rattle.diag_top.specs.inside.Limits.{IsJudged, set};
+ghost use Rattle.diag_top.specs.Answer.{advice, checks_of, reported, second_of, status_of};
+ghost use Rattle.diag_top.specs.inside.Jobs.{IsDone, job_of, set};
 
-use crate::job::{Outcome, outcome_of};
 use crate::refusal::too_large;
 use crate::reply::Reply;
-use crate::report::report_of;
 use clause_form::{BuildError, problem_of};
 use command_line::Status;
 use config_reader::Config;
+use diag_workers::{Options, run_job_alone};
 use feature_tree::Model;
+use report::{Counts, report_of};
+use script::{Finished, JobPlan, Outcome};
 use std::alloc::{AllocError, Global};
 
-/// How much each check of a job may learn: `allowance` clauses in the first attempt, and `rungs` more attempts may follow.
+/// How many checks may be offered to workers in a round.
+const ENTRIES: u32 = 4_096;
+
+/// How a job is done: each check may learn `allowance` clauses in its first attempt, and `rungs` more attempts may follow; the
+/// minimal diagnoses up to the size `list` are listed, if it is there.
 #[derive(Clone, Copy, Debug)]
 pub struct Limits {
     pub allowance: u64,
     pub rungs: u8,
+    pub list: Option<u32>,
 }
 
 /// The advice for a configuration of a model: the report, or that the problem would be too large.
@@ -30,20 +37,50 @@ pub fn advice(
     limits: Limits,
 ) -> Result<Reply, AllocError>
     requires stated { IsStated (length model.now.features) config.now }
-    requires allowance { limits.allowance ≤ 2 ^ 40 }
-    requires rungs { limits.rungs ≤ 4 }
+    requires allowed { AreAllowed (set limits) }
     ensures { IfOk result (λ reply. reply ≡ advice model.now config.now (set limits)) }
 {
-    let first = match job(alloc, model, config, limits)? {
-        Judged::Done(outcome) => outcome,
-        Judged::TooLarge(needed) => return too_large(alloc, needed),
+    let first = match make_job(alloc, model, config, limits, limits.list)? {
+        Job::Done(finished) => finished,
+        Job::TooLarge(needed) => return too_large(alloc, needed),
     };
-    let second = second_job(alloc, model, config, limits, &first)?;
-    let text = report_of(alloc, model, config, &first, second.as_ref())?;
+    let second = second_job(alloc, model, config, limits, &first.outcome)?;
+    reported(alloc, model, config, limits, &first, second.as_ref())
+}
+
+/// The reply with the report on the jobs.
+fn reported(
+    alloc: Global,
+    model: &Model,
+    config: &Config,
+    limits: Limits,
+    first: &Finished,
+    second: Option<&Finished>,
+) -> Result<Reply, AllocError>
+    requires { length config.now.musts ≤ 4096 }
+    ensures { IfOk result (λ reply. reply ≡ reported model.now config.now (set limits) (job_of first.now) (option_map (λ job. job_of job.now) second.entry)) }
+{
+    let counts = Counts {
+        checks: checks_of(first, second),
+        predicted: 0,
+        wasted: 0,
+    };
+    let found = second.map(|job| &job.outcome);
+    let text = report_of(alloc, model, config, limits.list, &first.outcome, found, counts)?;
     Ok(Reply {
-        status: status_of(&first),
+        status: status_of(&first.outcome),
         text,
     })
+}
+
+/// The checks of both jobs.
+fn checks_of(first: &Finished, second: Option<&Finished>) -> u128
+    ensures { result ≡ checks_of (job_of first.now) (option_map (λ job. job_of job.now) second.entry) }
+{
+    match second {
+        None => u128::from(first.used.len()),
+        Some(second) => u128::from(first.used.len()) + u128::from(second.used.len()),
+    }
 }
 
 /// The status of an outcome.
@@ -54,55 +91,67 @@ fn status_of(outcome: &Outcome) -> Status
         Outcome::Consistent => Status::Consistent,
         Outcome::Background => Status::Background,
         Outcome::Explained(_) => Status::Explained,
-        Outcome::LimitAt(_, _) => Status::Limit,
+        Outcome::LimitAt { .. } => Status::Limit,
     }
 }
 
 /// What comes of a job.
 #[derive(Drop)]
-enum Judged {
-    Done(Outcome),
+enum Job {
+    Done(Finished),
     /// The problem would have so many variables.
     TooLarge(u64),
 }
 
-/// What is found out about a configuration of a model. The problem is dropped at the end.
-fn job(alloc: Global, model: &Model, config: &Config, limits: Limits) -> Result<Judged, AllocError>
+/// Does the job about a configuration of a model. The problem is dropped at the end.
+fn make_job(
+    alloc: Global,
+    model: &Model,
+    config: &Config,
+    limits: Limits,
+    list: Option<u32>,
+) -> Result<Job, AllocError>
     requires stated { IsStated (length model.now.features) config.now }
-    requires allowance { limits.allowance ≤ 2 ^ 40 }
-    requires rungs { limits.rungs ≤ 4 }
-    ensures { IfOk result (IsJudged model.now config.now (set limits)) }
+    requires allowed { AreAllowed (set limits) }
+    requires list { IfSome list (λ size. size ≤ 4096) }
+    ensures { IfOk result (IsDone model.now config.now (set limits) list) }
 {
+    let options = Options {
+        workers: 0,
+        ahead: 0,
+        entries: ENTRIES,
+    };
     match problem_of(alloc, model, config, limits.allowance, limits.rungs) {
         Err(BuildError::Memory) => Err(AllocError),
-        Err(BuildError::TooLarge { needed }) => Ok(Judged::TooLarge(needed)),
+        Err(BuildError::TooLarge { needed }) => Ok(Job::TooLarge(needed)),
         Ok(problem) => {
-            let outcome = outcome_of(alloc, &problem)?;
-            Ok(Judged::Done(outcome))
+            let requirements = problem.n();
+            let plan = JobPlan { requirements, list };
+            let finished = run_job_alone(alloc, &problem, plan, &options)?;
+            Ok(Job::Done(finished))
         }
     }
 }
 
-/// Where nothing can be met and there are musts: what is found out about these.
+/// Where nothing can be met and there are musts: the job about these.
 fn second_job(
     alloc: Global,
     model: &Model,
     config: &Config,
     limits: Limits,
     first: &Outcome,
-) -> Result<Option<Outcome>, AllocError>
+) -> Result<Option<Finished>, AllocError>
     requires stated { IsStated (length model.now.features) config.now }
-    requires allowance { limits.allowance ≤ 2 ^ 40 }
-    requires rungs { limits.rungs ≤ 4 }
+    requires allowed { AreAllowed (set limits) }
     requires fits { needed model.now config.now ≤ 1000000 }
-    ensures { IfOk result (λ second. second ≡ second_of model.now config.now (set limits) first.now config.now.musts) }
+    ensures { IfOk result (λ second. option_map job_of second ≡ second_of model.now config.now (set limits) first.now config.now.musts) }
 {
     if !matches!(first, Outcome::Background) || config.musts.is_empty() {
         return Ok(None);
     }
     let musts = config.of_musts(alloc)?;
-    match job(alloc, model, &musts, limits)? {
-        Judged::Done(outcome) => Ok(Some(outcome)),
-        Judged::TooLarge(_) => Ok(None),
+    match make_job(alloc, model, &musts, limits, None)? {
+        Job::Done(finished) => Ok(Some(finished)),
+        Job::TooLarge(_) => Ok(None),
     }
 }

@@ -1,6 +1,6 @@
 //! `diagnose`: two files are fetched and read, and the advice is given.
 ghost use Rattle.std.specs.Prelude.{◌≡◌, ◌≢◌, ◌≤◌, ◌^◌, IfOk, IfSome, Some, Ok, IfErr, length};
-ghost use Rattle.command_line.specs.Words.{Diagnose};
+ghost use Rattle.command_line.specs.Words.{AreAllowed, Diagnose};
 ghost use Rattle.command_line.specs.declared.status.Status.TheVariants.{BadWords, Generated, Memory, ReadFault, WriteFault};
 ghost use Rattle.config_reader.specs.Judgement.{IsRefusal as IsConfigRefusal};
 ghost use Rattle.config_reader.specs.Laws.{IsStated};
@@ -10,7 +10,7 @@ ghost use Rattle.uvl_reader.specs.ModelReading.{model_of};
 ghost use Rattle.uvl_reader.specs.Refusals.{IsRefused};
 ghost use Rattle.diag_top.specs.Answer.{work_of, with_model, with_config};
 ghost use Rattle.diag_top.specs.inside.Follows.{Follows};
-ghost use Rattle.diag_top.specs.inside.Limits.{set};
+ghost use Rattle.diag_top.specs.inside.Jobs.{set};
 
 use crate::advice::{Limits, advice};
 use crate::refusal::{refused_config, refused_model};
@@ -33,8 +33,7 @@ pub fn diagnose<F: Shelf>(
     config: &str,
     limits: Limits,
 ) -> Result<Reply, AllocError>
-    requires allowance { limits.allowance ≤ 2 ^ 40 }
-    requires rungs { limits.rungs ≤ 4 }
+    requires allowed { AreAllowed (set limits) }
     ensures told { IfOk result (λ reply. IfSome (F.files shelf.old) (λ files. Follows files (F.lost shelf.new) (work_of (Some (Diagnose model.now config.now (set limits)))) reply)) }
     ensures others { IfOk result (λ reply. (reply.status ≢ BadWords) × (reply.status ≢ Memory) × (reply.status ≢ WriteFault) × (reply.status ≢ Generated)) }
     ensures read_fault { IfOk result (λ reply. reply.status ≡ ReadFault → Rises (F.faults shelf.old) (F.faults shelf.new)) }
@@ -60,8 +59,7 @@ fn diagnose_model<F: Shelf>(
     config: &str,
     limits: Limits,
 ) -> Result<Reply, AllocError>
-    requires allowance { limits.allowance ≤ 2 ^ 40 }
-    requires rungs { limits.rungs ≤ 4 }
+    requires allowed { AreAllowed (set limits) }
     ensures told { IfOk result (λ reply. IfSome (F.files shelf.old) (λ files. Follows files (F.lost shelf.new) (with_model config.now (set limits) (Ok model.now)) reply)) }
     ensures others { IfOk result (λ reply. (reply.status ≢ BadWords) × (reply.status ≢ Memory) × (reply.status ≢ WriteFault) × (reply.status ≢ Generated)) }
     ensures read_fault { IfOk result (λ reply. reply.status ≡ ReadFault → Rises (F.faults shelf.old) (F.faults shelf.new)) }
@@ -91,8 +89,7 @@ fn diagnose_config(
     limits: Limits,
 ) -> Result<Reply, AllocError>
     requires few { length bytes ≤ MOST }
-    requires allowance { limits.allowance ≤ 2 ^ 40 }
-    requires rungs { limits.rungs ≤ 4 }
+    requires allowed { AreAllowed (set limits) }
     ensures { IfOk result (λ reply. reply ≡ with_config model.now (set limits) (configuration bytes model.now)) }
 {
     match config_in(alloc, model, bytes) {

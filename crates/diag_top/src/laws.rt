@@ -1,22 +1,37 @@
 //! What holds of every answer and of every outcome.
-ghost use Rattle.diag_top.specs.Laws.{AdviceIsRight, AnswersAreNoFaults, OutcomesAreRight};
+use config_reader::Config;
+use feature_tree::Model;
+use pref_sets::Property;
+use script::outcome_is_right;
+
+ghost use Rattle.diag_top.specs.Laws.{AdviceIsRight, AnswersAreNoFaults};
 
 /// An answer is never want of memory or a fault, so that the ends of a run exclude each other.
 pub fn answers_are_no_faults()
     ensures { AnswersAreNoFaults }
 {}
 
-/// Consistent comes only where all requirements can be met together, and Background only where the model and the musts
-/// can't. Where they are explained, the kept set is the preferred relaxation (Junker 2004) for 'can be met together'. A
-/// limit is a check whose search spent its allowance.
-pub fn outcomes_are_right()
-    ensures { OutcomesAreRight }
-{}
-
-/// The advice in words of products: Consistent comes only where one product makes every must and every requirement true,
-/// Background only where none makes the musts true, and what is kept is the preferred relaxation (Junker 2004) for 'some
-/// product makes the musts and these requirements true'.
+/// The advice in words of products. Consistent comes only where one product makes every must and every requirement true,
+/// Background only where none makes the musts true. Where they are explained, what is kept is the preferred relaxation and
+/// the conflict the preferred conflict (Junker 2004), and the listing has every minimal diagnosis up to its size once (Reiter
+/// 1987), for 'some product makes the musts and these requirements true'. At a limit the same holds of the parts that were
+/// finished before.
 pub fn advice_is_right()
     ensures { AdviceIsRight }
 {
+    outcome_is_right::<Configured>();
+}
+
+/// A configuration of a model.
+#[derive(Drop)]
+struct Configured {
+    model: Model,
+    config: Config,
+}
+
+/// Requirements at some positions are consistent where some product makes the musts and these true.
+impl Property for Configured {
+    ghost use Rattle.config_reader.specs.Consistent.{AreConsistent};
+
+    ghost holds = { λ configured. AreConsistent configured.model configured.config };
 }

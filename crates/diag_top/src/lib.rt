@@ -5,17 +5,14 @@
 
 mod advice;
 mod diagnose;
-mod job;
 mod laws;
 mod refusal;
 mod reply;
-mod report;
 mod run;
 mod write;
 
 pub use command_line::{Command, Status, read_words};
-pub use job::{Outcome, Part};
-pub use laws::{advice_is_right, answers_are_no_faults, outcomes_are_right};
+pub use laws::{advice_is_right, answers_are_no_faults};
 pub use run::run_alone;
 
 #[cfg(test)]

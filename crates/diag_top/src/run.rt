@@ -66,13 +66,19 @@ fn reply_to<F: Shelf>(alloc: Global, words: &[String], shelf: &mut F) -> Result<
 {
     match read_words(words) {
         None => Reply::of(alloc, Status::BadWords, b"words refused\n"),
-        Some(
-            Command::Diagnose {
-                model,
-                config,
+        Some(Command::Diagnose {
+            model,
+            config,
+            allowance,
+            rungs,
+            list,
+        }) => {
+            let limits = Limits {
                 allowance,
                 rungs,
-            },
-        ) => diagnose(alloc, shelf, model, config, Limits { allowance, rungs }),
+                list,
+            };
+            diagnose(alloc, shelf, model, config, limits)
+        }
     }
 }

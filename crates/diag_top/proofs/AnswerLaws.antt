@@ -1,0 +1,80 @@
+-- An answer is no fault.
+use Rattle.std.proofs.Common.{◌≡◌, ℕ, Bool, true, false, cond, List, [], ◌∷◌, Some, None, refl, ap, subst, sym}
+use Rattle.std.specs.Prelude.{Option, Result, Ok, Err, nat_lt}
+use Rattle.std.specs.Option.{option_and_then}
+use Rattle.std.proofs.lemmas.Option.{none-some, same_Some}
+use Rattle.command_line.specs.Words.{Settings, Request, Diagnose, request_of}
+use Rattle.clause_form.specs.ClauseForm.{needed}
+use Rattle.config_reader.specs.Configuration.{Configuration}
+use Rattle.config_reader.specs.Reading.{configuration}
+use Rattle.config_reader.specs.declared.error.ConfigError.{ConfigError}
+use Rattle.config_reader.specs.declared.error.ConfigError.TheVariants as config
+use Rattle.diag_base.specs.Shelf.{Files}
+use Rattle.diag_base.specs.declared.shelf.Fetched.{Fetched}
+use Rattle.diag_base.specs.declared.shelf.Fetched.TheVariants.{Whole, Longer}
+use Rattle.feature_tree.specs.FeatureModel.{FeatureModel}
+use Rattle.script.specs.declared.job.Outcome.{Outcome}
+use Rattle.script.specs.declared.job.Outcome.TheVariants as outcome
+use Rattle.uvl_reader.specs.ModelReading.{model_of}
+use Rattle.uvl_reader.specs.Refusals.{Refusal}
+use Rattle.diag_top.specs.Answer.{MOST_VARIABLES, Judged, judged, reported_after, status_of, advice, with_config, with_config_file, with_model, with_model_file, work_of, work_for}
+use Rattle.diag_top.specs.Laws.{AnswersAreNoFaults}
+use Rattle.diag_top.specs.Refusals.{too_large}
+use Rattle.diag_top.specs.Run.{IsOfAnAnswer}
+use Rattle.diag_top.specs.Work.{Reply, Work, Done, Fetch, handed, replied}
+
+-- every reply that the work may end with is of an answer
+abbrev EndsWell : Work → Type 0
+EndsWell (Done reply) = IsOfAnAnswer reply.status
+EndsWell (Fetch role word most next) = (file : Fetched) → EndsWell (next file)
+
+by_file : (follow : List ℕ → Option Reply) (found : Option (List ℕ)) (reply : Reply) → ((bytes : List ℕ) → follow bytes ≡ Some reply → IsOfAnAnswer reply.status) → option_and_then follow found ≡ Some reply → IsOfAnAnswer reply.status
+by_file follow None reply each e = absurd (none-some reply e)
+by_file follow (Some bytes) reply each e = each bytes e
+
+-- so is the one that it ends with
+ends_well : (files : Files) (work : Work) (reply : Reply) → EndsWell work → replied files work ≡ Some reply → IsOfAnAnswer reply.status
+ends_well files (Done done) reply well e = subst (λ (r : Reply). IsOfAnAnswer r.status) (same_Some done reply e) well
+ends_well files (Fetch role word most next) reply well e =
+    by_file (λ bytes. replied files (next (handed most bytes))) (files word) reply (λ bytes. ends_well files (next (handed most bytes)) reply (well (handed most bytes))) e
+
+-- ---- the work of a command
+
+status_well : (o : Outcome) → IsOfAnAnswer (status_of o)
+status_well outcome.Consistent = tt
+status_well outcome.Background = tt
+status_well (outcome.Explained parts) = tt
+status_well (outcome.LimitAt part key before) = tt
+
+either_well : (test : Bool) (yes no : Reply) → IsOfAnAnswer yes.status → IsOfAnAnswer no.status → IsOfAnAnswer (cond test yes no).status
+either_well true yes no a b = a
+either_well false yes no a b = b
+
+advice_well : (model : FeatureModel) (config : Configuration) (settings : Settings) → IsOfAnAnswer (advice model config settings).status
+advice_well model config settings =
+    either_well (nat_lt MOST_VARIABLES (needed model config)) (too_large (needed model config))
+    (reported_after model config settings (judged model config settings settings.list)) tt (status_well (judged model config settings settings.list).outcome)
+
+config_well : (model : FeatureModel) (settings : Settings) (read : Result Configuration ConfigError) → IsOfAnAnswer (with_config model settings read).status
+config_well model settings (Ok config) = advice_well model config settings
+config_well model settings (Err (config.Refused line reason)) = tt
+config_well model settings (Err config.Memory) = tt
+
+config_file_well : (model : FeatureModel) (settings : Settings) (file : Fetched) → EndsWell (with_config_file model settings file)
+config_file_well model settings Longer = tt
+config_file_well model settings (Whole bytes) = config_well model settings (configuration bytes model)
+
+model_well : (config : List ℕ) (settings : Settings) (read : Result FeatureModel Refusal) → EndsWell (with_model config settings read)
+model_well config settings (Ok model) = config_file_well model settings
+model_well config settings (Err refused) = tt
+
+model_file_well : (config : List ℕ) (settings : Settings) (file : Fetched) → EndsWell (with_model_file config settings file)
+model_file_well config settings Longer = tt
+model_file_well config settings (Whole bytes) = model_well config settings (model_of bytes)
+
+work_well : (asked : Option Request) → EndsWell (work_of asked)
+work_well None = tt
+work_well (Some (Diagnose model config settings)) = model_file_well config settings
+
+pub answers_are_no_faults : AnswersAreNoFaults
+answers_are_no_faults words files reply e = ends_well files (work_for words) reply (work_well (request_of words)) e

@@ -1,0 +1,13 @@
+//! A job on a problem, from its plan to what is finished. `run_job_alone` makes every check itself, one after the other, by the
+//! search with learning. A layer above may rely on it that the outcome and the checks are those of the sequential run over the
+//! problem's verdicts.
+#![tactic(auto)]
+
+mod alone;
+mod options;
+
+pub use alone::run_job_alone;
+pub use options::Options;
+
+#[cfg(test)]
+mod tests;
