@@ -157,6 +157,19 @@ impl Run {
         Ok(())
     }
 
+    /// An equal run, which goes on by itself. It shares the told pairs.
+    pub fn copy(&self) -> Result<Run, AllocError>
+        ensures { IfOk result (λ run. run ≡ self.now) }
+    {
+        let used = self.used.copy()?;
+        let stage = self.stage.copy(self.used.allocator())?;
+        Ok(Run {
+            plan: self.plan,
+            used,
+            stage,
+        })
+    }
+
     /// How the job ended.
     pub fn outcome(&self) -> &Outcome
         requires { IsEnded (want_after self.now) }

@@ -8,11 +8,11 @@ ghost use Rattle.script.specs.inside.Stages.{HasConflict, HasKept, IsAt, IsBeyon
 
 use crate::beside::Beside;
 use crate::going::{Halt, run_on};
-use crate::job::{JobPlan, Outcome, Part, Parts};
+use crate::job::{JobPlan, Outcome, Part, Parts, copy_keys};
 use fast_diag::FastDiag;
 use hs_tree::HsTree;
 use quick_xplain::QuickXplain;
-use req_keys::{Key, Keys, Verdict};
+use req_keys::{Key, Verdict};
 use std::alloc::{AllocError, Global};
 
 /// The part that asks, with what was found before it, or how the job has ended.
@@ -33,6 +33,33 @@ pub(crate) enum Stage {
         state: HsTree,
     },
     Done(Outcome),
+}
+
+impl Stage {
+    /// The same stage.
+    pub fn copy(&self, alloc: Global) -> Result<Stage, AllocError>
+        ensures { IfOk result (λ stage. stage ≡ self.now) }
+    {
+        match self {
+            Stage::All(key) => Ok(Stage::All(key.copy()?)),
+            Stage::Background(key) => Ok(Stage::Background(key.copy()?)),
+            Stage::Kept(state) => Ok(Stage::Kept(state.copy()?)),
+            Stage::Conflict { kept, state } => Ok(Stage::Conflict {
+                kept: kept.copy()?,
+                state: state.copy()?,
+            }),
+            Stage::Listing {
+                kept,
+                conflict,
+                state,
+            } => Ok(Stage::Listing {
+                kept: kept.copy()?,
+                conflict: conflict.copy()?,
+                state: state.copy()?,
+            }),
+            Stage::Done(outcome) => Ok(Stage::Done(outcome.copy(alloc)?)),
+        }
+    }
 }
 
 /// A part asked a key whose search spent its allowance.
@@ -169,17 +196,6 @@ fn list_or_end(
             list(alloc, plan, told, kept, conflict, state)
         }
     }
-}
-
-/// Equal keys.
-fn copy_keys(alloc: Global, keys: &Keys) -> Result<Keys, AllocError>
-    ensures { IfOk result (λ copies. copies ≡ keys.now) }
-{
-    let mut copies = Keys::new(alloc);
-    for key in keys.as_slice() {
-        copies.push(key.copy()?)?;
-    }
-    Ok(copies)
 }
 
 /// The job from the tree on.
