@@ -1,4 +1,5 @@
 pub mod Answering
+pub mod AskedKeys
 pub mod AskedSets
 pub mod JobAsks
 pub mod Lookups
