@@ -1,5 +1,5 @@
 -- What was told of a key, and what the table of answers has on its set.
-use Rattle.std.proofs.Common.{◌≡◌, Bool, true, false, cond, Option, Some, None, [], ◌∷◌, ◌⊎◌, inl, inr, refl, ap}
+use Rattle.std.proofs.Common.{◌≡◌, Bool, true, false, cond, Option, Some, None, [], ◌∷◌, ◌⊎◌, inl, inr, refl, ap, rules}
 use Rattle.pref_sets.specs.Answers.{answer_to}
 use Rattle.pref_sets.proofs.Plans.{answer_to-first}
 use Rattle.req_keys.specs.Key.{PositionSet}
@@ -33,3 +33,11 @@ unanswered (pair ∷ told) key e = case (λ none. unanswered told key none) (key
     case rest false same verdict.Sat e = rest (later-none _ true _ e)
     case rest false same verdict.Unsat e = rest (later-none _ false _ e)
     case rest false same verdict.Limit e = rest e
+
+-- a test that passes finds the first, and else the rest is looked through
+pub cases-found : {X : Type 0} (b : Bool) (x y : X) (rest : Option X) → cond b (Some x) rest ≡ Some y → ((b ≡ true) × (x ≡ y)) ⊎ (rest ≡ Some y)
+cases-found true x y rest e = let same : x ≡ y = cc in inl (refl, same)
+cases-found false x y rest e = inr e
+
+pub key_eq-refl : (a : PositionSet) → key_eq a a ≡ true
+key_eq-refl a = search rules

@@ -1,5 +1,5 @@
 -- Over right verdicts each part finds what it is to find.
-use Rattle.std.proofs.Common.{◌≡◌, ℕ, Bool, true, false, cond, Option, Some, None, List, [], ◌∷◌, ◌⊎◌, inl, inr, refl, sym, subst, ⊎_elim}
+use Rattle.std.proofs.Common.{◌≡◌, ℕ, Bool, true, false, cond, Option, Some, None, List, [], ◌∷◌, refl, sym, subst, ⊎_elim}
 use Rattle.std.specs.Cmp.Lexicographic.{same_text}
 use Rattle.std.specs.List.{range_with_len}
 use Rattle.std.specs.List.Sorted.{IsStrictlyIncreasing}
@@ -30,11 +30,8 @@ use Rattle.script.specs.declared.job.Part.TheVariants as part
 use Rattle.script.specs.declared.job.Parts.{Parts}
 use Rattle.script.specs.Job.{Told, Wanted, asks, ends, answers_of, verdict_in, with_verdict, by_verdict, by_next, no_parts, want, background_part, kept_part, conflict_part, listing_part}
 use Rattle.script.specs.Right.{AreTrue, ArePartsRight, IsRight, IsTrueVerdict}
+use Rattle.script.proofs.Lookups.{cases-found}
 use Rattle.script.proofs.TreeAsks.{range-rises}
-
-cases-found : {X : Type 0} (b : Bool) (x y : X) (rest : Option X) → cond b (Some x) rest ≡ Some y → ((b ≡ true) × (x ≡ y)) ⊎ (rest ≡ Some y)
-cases-found true x y rest e = let same : x ≡ y = cc in inl (refl, same)
-cases-found false x y rest e = inr e
 
 module _ (P : List ℕ → Type 0) where
   -- what an answer says of the set

@@ -1,5 +1,5 @@
 -- The sequential run: what it has told differs in pairs, so it ends.
-use Rattle.std.proofs.Common.{◌≡◌, ℕ, zero, suc, ◌+◌, ◌-◌, ◌^◌, ◌<◌, ◌≤◌, Bool, true, false, cond, Option, Some, None, List, [], ◌∷◌, ◌++◌, length, map, ◌⊎◌, inl, inr, refl, sym, ap, ◌∙◌, subst, ⊎_elim, arith, rules, append_assoc, append-nil, length-append}
+use Rattle.std.proofs.Common.{◌≡◌, ℕ, zero, suc, ◌+◌, ◌-◌, ◌^◌, ◌<◌, ◌≤◌, Bool, true, false, cond, Option, Some, None, List, [], ◌∷◌, ◌++◌, length, map, ◌⊎◌, inl, inr, refl, sym, ap, ◌∙◌, subst, ⊎_elim, arith, append_assoc, append-nil, length-append}
 use Rattle.std.specs.Prelude.{All, Contains, not, ◌&&◌}
 use Rattle.std.proofs.lemmas.Bool.{cases_Bool, false≢true}
 use Rattle.std.proofs.lemmas.List.Elements.{All-nil, All-head, All-tail, All-push}
@@ -19,6 +19,7 @@ use Rattle.script.specs.declared.job.Outcome.{Outcome}
 use Rattle.script.specs.declared.job.Part.{Part}
 use Rattle.script.specs.Job.{Told, Wanted, asks, ends, verdict_in, want}
 use Rattle.script.specs.Sequential.{by_want, told_within, needs, check_count, IsSoFar}
+use Rattle.script.proofs.Lookups.{key_eq-refl}
 use Rattle.script.proofs.JobAsks.{IsNewKey, AsksNewKey, want-new}
 
 -- a key over n positions, and the test of its members
@@ -68,9 +69,6 @@ same_key n a b over other e =
     key_of-parts a b (over.0 ∙ sym other.0)
     (Ascends-same a.members b.members (Ascends-from_rises 0 n a.members over.1) (Ascends-from_rises 0 n b.members other.1)
     (within_same n a b over same) (within_same n b a other (λ i l. sym (same i l))))
-
-key_eq-refl : (a : PositionSet) → key_eq a a ≡ true
-key_eq-refl a = search rules
 
 some-none : (b : Bool) (v : Verdict) (rest : Option Verdict) → cond b (Some v) rest ≡ None → (b ≡ false) × (rest ≡ None)
 some-none true v rest e = absurd (cc)
