@@ -16,5 +16,5 @@ options-preserved c =
     record {
       allowed = c.in_ok-options.ensures.allowed;
       chosen = next (chosen c.options.options) (chosen c.in_ok-options.options) name value (map string_bytes c.options.rest.now) after
-    (chosen_from nothing_chosen (map string_bytes c.args.words.now)) all c.in_ok-options.ensures.chosen c.options.invariant.chosen;
+          (chosen_from nothing_chosen (map string_bytes c.args.words.now)) all c.in_ok-options.ensures.chosen c.options.invariant.chosen;
     }
