@@ -1,0 +1,13 @@
+pub mod Answering
+pub mod AskedKeys
+pub mod AskedSets
+pub mod JobAsks
+pub mod Lookups
+pub mod Pairs
+pub mod RightOutcomes
+pub mod SequentialRuns
+pub mod SomeConflict
+pub mod StageLaws
+pub mod StageMore
+pub mod TreeAsks
+pub mod TreeMore

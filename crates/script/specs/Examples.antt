@@ -13,7 +13,7 @@ use Rattle.script.specs.declared.job.Outcome.TheVariants as outcome
 use Rattle.script.specs.declared.job.Part.{Part}
 use Rattle.script.specs.declared.job.Part.TheVariants as part
 use Rattle.script.specs.Job.{asks, ends, want}
-use Rattle.script.specs.Sequential.{needs, result}
+use Rattle.script.specs.Sequential.{needs, result_of}
 
 abbrev plan : ℕ → Option ℕ → JobPlan
 plan n list = record { requirements = n; list = list }
@@ -46,7 +46,7 @@ pub phone-needs :
     ∷ (key_over 3 (1 ∷ 2 ∷ []), Unsat) ∷ (key_over 3 (1 ∷ 3 ∷ []), Sat) ∷ (key_over 3 (2 ∷ []), Sat) ∷ []
 phone-needs = refl
 
-pub phone-result : result (plan 3 None) (by_test phone) ≡ explained 3 (1 ∷ 3 ∷ []) (1 ∷ 2 ∷ []) None
+pub phone-result : result_of (plan 3 None) (by_test phone) ≡ explained 3 (1 ∷ 3 ∷ []) (1 ∷ 2 ∷ []) None
 phone-result = refl
 
 -- with the listing one more: {1,3} was told for the kept set, and is not asked again
@@ -56,39 +56,39 @@ pub phone-list_checks :
 phone-list_checks = refl
 
 pub phone-list_result :
-    result (plan 3 (Some 3)) (by_test phone) ≡ explained 3 (1 ∷ 3 ∷ []) (1 ∷ 2 ∷ []) (Some ((2 ∷ []) ∷ (1 ∷ []) ∷ []))
+    result_of (plan 3 (Some 3)) (by_test phone) ≡ explained 3 (1 ∷ 3 ∷ []) (1 ∷ 2 ∷ []) (Some ((2 ∷ []) ∷ (1 ∷ []) ∷ []))
 phone-list_result = refl
 
 -- up to size 0 there is a listing, and it is empty
 pub phone-list_zero :
-    (result (plan 3 (Some 0)) (by_test phone) ≡ explained 3 (1 ∷ 3 ∷ []) (1 ∷ 2 ∷ []) (Some []))
+    (result_of (plan 3 (Some 0)) (by_test phone) ≡ explained 3 (1 ∷ 3 ∷ []) (1 ∷ 2 ∷ []) (Some []))
     × (length (needs (plan 3 (Some 0)) (by_test phone)) ≡ 6)
 phone-list_zero = (refl, refl)
 
 -- no requirements: one check where there is a product, and one where there is none, since all of none are none
 pub none-consistent :
-    (checks (plan 0 None) (by_test (λ set. true)) ≡ [] ∷ []) × (result (plan 0 None) (by_test (λ set. true)) ≡ Some Consistent)
+    (checks (plan 0 None) (by_test (λ set. true)) ≡ [] ∷ []) × (result_of (plan 0 None) (by_test (λ set. true)) ≡ Some Consistent)
 none-consistent = (refl, refl)
 
 pub none-background :
-    (checks (plan 0 None) (by_test (λ set. false)) ≡ [] ∷ []) × (result (plan 0 None) (by_test (λ set. false)) ≡ Some outcome.Background)
+    (checks (plan 0 None) (by_test (λ set. false)) ≡ [] ∷ []) × (result_of (plan 0 None) (by_test (λ set. false)) ≡ Some outcome.Background)
 none-background = (refl, refl)
 
 -- one requirement, and no product: two checks
 pub one-background :
-    (checks (plan 1 None) (by_test (λ set. false)) ≡ (1 ∷ []) ∷ [] ∷ []) × (result (plan 1 None) (by_test (λ set. false)) ≡ Some outcome.Background)
+    (checks (plan 1 None) (by_test (λ set. false)) ≡ (1 ∷ []) ∷ [] ∷ []) × (result_of (plan 1 None) (by_test (λ set. false)) ≡ Some outcome.Background)
 one-background = (refl, refl)
 
 -- all of three can be met: one check, though a listing is asked for
 pub all-consistent :
-    (checks (plan 3 (Some 3)) (by_test (λ set. true)) ≡ (1 ∷ 2 ∷ 3 ∷ []) ∷ []) × (result (plan 3 (Some 3)) (by_test (λ set. true)) ≡ Some Consistent)
+    (checks (plan 3 (Some 3)) (by_test (λ set. true)) ≡ (1 ∷ 2 ∷ 3 ∷ []) ∷ []) × (result_of (plan 3 (Some 3)) (by_test (λ set. true)) ≡ Some Consistent)
 all-consistent = (refl, refl)
 
 -- not Phone: one requirement that no phone meets
 pub not_phone-checks : checks (plan 1 None) (by_test (λ set. not (has 1 set))) ≡ (1 ∷ []) ∷ [] ∷ []
 not_phone-checks = refl
 
-pub not_phone-result : result (plan 1 None) (by_test (λ set. not (has 1 set))) ≡ explained 1 [] (1 ∷ []) None
+pub not_phone-result : result_of (plan 1 None) (by_test (λ set. not (has 1 set))) ≡ explained 1 [] (1 ∷ []) None
 not_phone-result = refl
 
 -- Camera, not Camera, Camera
@@ -101,7 +101,7 @@ pub camera-checks :
 camera-checks = refl
 
 pub camera-result :
-    result (plan 3 (Some 3)) (by_test camera_or_not) ≡ explained 3 (1 ∷ 3 ∷ []) (1 ∷ 2 ∷ []) (Some ((2 ∷ []) ∷ (1 ∷ 3 ∷ []) ∷ []))
+    result_of (plan 3 (Some 3)) (by_test camera_or_not) ≡ explained 3 (1 ∷ 3 ∷ []) (1 ∷ 2 ∷ []) (Some ((2 ∷ []) ∷ (1 ∷ 3 ∷ []) ∷ []))
 camera-result = refl
 
 -- A, B, not A, not B
@@ -115,7 +115,7 @@ pub opposites-checks :
 opposites-checks = refl
 
 pub opposites-result :
-    result (plan 4 (Some 4)) (by_test opposites)
+    result_of (plan 4 (Some 4)) (by_test opposites)
     ≡ explained 4 (1 ∷ 2 ∷ []) (1 ∷ 3 ∷ []) (Some ((3 ∷ 4 ∷ []) ∷ (2 ∷ 3 ∷ []) ∷ (1 ∷ 4 ∷ []) ∷ (1 ∷ 2 ∷ []) ∷ []))
 opposites-result = refl
 
@@ -129,7 +129,7 @@ pub three_of_four-checks :
 three_of_four-checks = refl
 
 pub three_of_four-result :
-    result (plan 4 None) (by_test three_of_four) ≡ explained 4 (1 ∷ 2 ∷ 3 ∷ []) (1 ∷ 2 ∷ 3 ∷ 4 ∷ []) None
+    result_of (plan 4 None) (by_test three_of_four) ≡ explained 4 (1 ∷ 2 ∷ 3 ∷ []) (1 ∷ 2 ∷ 3 ∷ 4 ∷ []) None
 three_of_four-result = refl
 
 -- at most one of three
@@ -142,7 +142,7 @@ pub one_of_three-checks :
 one_of_three-checks = refl
 
 pub one_of_three-result :
-    result (plan 3 (Some 3)) (by_test one_of_three)
+    result_of (plan 3 (Some 3)) (by_test one_of_three)
     ≡ explained 3 (1 ∷ []) (1 ∷ 2 ∷ []) (Some ((2 ∷ 3 ∷ []) ∷ (1 ∷ 3 ∷ []) ∷ (1 ∷ 2 ∷ []) ∷ []))
 one_of_three-result = refl
 
@@ -156,33 +156,33 @@ limit_in part n set kept conflict =
 
 -- the first check, and the second; the key that was a Limit is told
 pub limit-all :
-    (result (plan 3 None) (limit_at (1 ∷ 2 ∷ 3 ∷ [])) ≡ limit_in part.All 3 (1 ∷ 2 ∷ 3 ∷ []) None None)
+    (result_of (plan 3 None) (limit_at (1 ∷ 2 ∷ 3 ∷ [])) ≡ limit_in part.All 3 (1 ∷ 2 ∷ 3 ∷ []) None None)
     × (needs (plan 3 None) (limit_at (1 ∷ 2 ∷ 3 ∷ [])) ≡ (key_over 3 (1 ∷ 2 ∷ 3 ∷ []), Limit) ∷ [])
 limit-all = (refl, refl)
 
-pub limit-background : result (plan 3 None) (limit_at []) ≡ limit_in part.Background 3 [] None None
+pub limit-background : result_of (plan 3 None) (limit_at []) ≡ limit_in part.Background 3 [] None None
 limit-background = refl
 
 -- in FastDiag, at its last check: no kept set is known then
 pub limit-kept :
-    (result (plan 3 None) (limit_at (1 ∷ 3 ∷ [])) ≡ limit_in part.Kept 3 (1 ∷ 3 ∷ []) None None)
+    (result_of (plan 3 None) (limit_at (1 ∷ 3 ∷ [])) ≡ limit_in part.Kept 3 (1 ∷ 3 ∷ []) None None)
     × (length (needs (plan 3 None) (limit_at (1 ∷ 3 ∷ []))) ≡ 5)
 limit-kept = (refl, refl)
 
 -- in QuickXplain the kept set is known, and in the listing the conflict too
-pub limit-conflict : result (plan 3 (Some 3)) (limit_at (2 ∷ [])) ≡ limit_in part.Conflict 3 (2 ∷ []) (Some (1 ∷ 3 ∷ [])) None
+pub limit-conflict : result_of (plan 3 (Some 3)) (limit_at (2 ∷ [])) ≡ limit_in part.Conflict 3 (2 ∷ []) (Some (1 ∷ 3 ∷ [])) None
 limit-conflict = refl
 
 pub limit-listing :
-    result (plan 3 (Some 3)) (limit_at (2 ∷ 3 ∷ [])) ≡ limit_in part.Listing 3 (2 ∷ 3 ∷ []) (Some (1 ∷ 3 ∷ [])) (Some (1 ∷ 2 ∷ []))
+    result_of (plan 3 (Some 3)) (limit_at (2 ∷ 3 ∷ [])) ≡ limit_in part.Listing 3 (2 ∷ 3 ∷ []) (Some (1 ∷ 3 ∷ [])) (Some (1 ∷ 2 ∷ []))
 limit-listing = refl
 
 -- a Limit of a key that isn't needed is never seen
-pub limit-unneeded : result (plan 3 None) (limit_at (2 ∷ 3 ∷ [])) ≡ explained 3 (1 ∷ 3 ∷ []) (1 ∷ 2 ∷ []) None
+pub limit-unneeded : result_of (plan 3 None) (limit_at (2 ∷ 3 ∷ [])) ≡ explained 3 (1 ∷ 3 ∷ []) (1 ∷ 2 ∷ []) None
 limit-unneeded = refl
 
 -- no requirements, and the one check spends its allowance
-pub limit-none : result (plan 0 None) (λ key. Limit) ≡ limit_in part.All 0 [] None None
+pub limit-none : result_of (plan 0 None) (λ key. Limit) ≡ limit_in part.All 0 [] None None
 limit-none = refl
 
 -- over told pairs the part and its key are wanted, whatever else was told: {2,3} is known before the listing asks for it
