@@ -43,11 +43,12 @@ module _ (model : FeatureModel) (config : Configuration) (settings : Settings) (
   advice : (outcome : Outcome) → IsRight (problem_of model config settings.allowance settings.rungs) outcome → IsAdvice model config outcome
   advice Consistent right = (same (positions_in config)).1 (subst (AreMet (problem_of model config settings.allowance settings.rungs)) all right)
   advice Background right = λ c. right ((same []).0 c)
-  advice (Explained kept) right =
-      ((λ c. right.0 (subst (AreMet (problem_of model config settings.allowance settings.rungs)) (sym all) ((same (positions_in config)).0 c))),
-      (same []).1 right.1,
-      same_greedy (AreMet (problem_of model config settings.allowance settings.rungs)) (AreConsistent model config) with_item [] (positions_in config) kept.members same
-      (subst (λ (items : List ℕ). IsGreedy (AreMet (problem_of model config settings.allowance settings.rungs)) with_item [] items kept.members) all right.2))
+  advice (Explained kept) right = (
+    (λ c. right.0 (subst (AreMet (problem_of model config settings.allowance settings.rungs)) (sym all) ((same (positions_in config)).0 c))),
+    (same []).1 right.1,
+    same_greedy (AreMet (problem_of model config settings.allowance settings.rungs)) (AreConsistent model config) with_item [] (positions_in config) kept.members same
+        (subst (λ (items : List ℕ). IsGreedy (AreMet (problem_of model config settings.allowance settings.rungs)) with_item [] items kept.members) all right.2),
+  )
   advice (LimitAt found_in key) right = tt
 
 pub advice_is_right : AdviceIsRight

@@ -18,5 +18,4 @@ pub fn outcomes_are_right()
 /// product makes the musts and these requirements true'.
 pub fn advice_is_right()
     ensures { AdviceIsRight }
-{
-}
+{}
