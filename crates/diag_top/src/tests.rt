@@ -36,6 +36,30 @@ fn the_advice_is_written(rt: HostRuntime) -> Result<(), Fail> {
     Ok(())
 }
 
+/// A configuration whose report is longer than a piece of 4,096 bytes: all but the first requirement are given up.
+fn long_config(alloc: Global) -> Result<Vec<u8>, AllocError> {
+    let mut text = Vec::new(alloc);
+    text.extend_from_slice(b"GPS\n")?;
+    for _ in 0..400 {
+        text.extend_from_slice(b"!GPS\n")?;
+    }
+    Ok(text)
+}
+
+#[test]
+fn a_long_text_goes_in_pieces(rt: HostRuntime) -> Result<(), Fail> {
+    let words = words_of(rt.alloc(), &["diagnose", "m", "c"])?;
+    let mut shelf = phone(rt.alloc())?;
+    let config = long_config(rt.alloc())?;
+    shelf.set(rt.alloc(), "c", config.as_slice())?;
+    let mut sink = MemSink::new(rt.alloc(), 10_000)?;
+    sink.fail_on(1, 5)?;
+    let status = run_alone(rt.alloc(), words.as_slice(), &mut shelf, &mut sink);
+    assert_eq!(rt; status, Some(Status::WriteFault));
+    assert_eq!(rt; sink.written().len(), 4_101);
+    Ok(())
+}
+
 #[test]
 fn faults_are_told(rt: HostRuntime) -> Result<(), Fail> {
     let words = words_of(rt.alloc(), &["diagnose", "m", "c"])?;
@@ -48,6 +72,9 @@ fn faults_are_told(rt: HostRuntime) -> Result<(), Fail> {
     assert_eq!(rt; sink.written(), b"read failed configuration\n".as_slice());
     let status = run_alone(rt.alloc(), words.as_slice(), &mut shelf, &mut sink);
     assert_eq!(rt; status, Some(Status::WriteFault));
-    assert_eq!(rt; sink.written(), b"read failed configuration\ndiag ".as_slice());
+    assert_eq!(rt;
+        sink.written(),
+        b"read failed configuration\ndiag ".as_slice()
+    );
     Ok(())
 }

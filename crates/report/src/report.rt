@@ -36,7 +36,13 @@ pub fn report_of(
     push_musts_line(alloc, &mut text, config.musts.as_slice())?;
     push_result_line(&mut text, first)?;
     push_must_findings(alloc, &mut text, config.musts.as_slice(), second)?;
-    push_findings(alloc, &mut text, config.requirements.as_slice(), list, first)?;
+    push_findings(
+        alloc,
+        &mut text,
+        config.requirements.as_slice(),
+        list,
+        first,
+    )?;
     push_checks_line(alloc, &mut text, counts)?;
     text.extend_from_slice(b"end\n")?;
     Ok(text)

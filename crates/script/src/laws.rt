@@ -1,5 +1,7 @@
 //! What a job asks, that its sequential run ends, and what its outcome says.
 ghost use Rattle.std.specs.Prelude.{◌≡◌, ◌^◌, ◌≤◌, All, Contains, IsSome, List, None, Some, [], ◌∷◌, ◌++◌, length, map, ℕ};
+ghost use Rattle.clauses.specs.Met.{AreMet};
+ghost use Rattle.clauses.specs.Problem.{ClauseProblem, IsProblem};
 ghost use Rattle.pref_sets.specs.Properties.{PassesToFewer};
 ghost use Rattle.req_keys.specs.Key.{PositionSet};
 ghost use Rattle.req_keys.specs.Positions.{RiseWithin};
@@ -9,8 +11,9 @@ ghost use Rattle.script.specs.declared.job.Outcome.{Outcome};
 ghost use Rattle.script.specs.declared.job.Part.{Part};
 ghost use Rattle.script.specs.Job.{Told, asks, ends, verdict_in, want};
 ghost use Rattle.script.specs.Right.{AreTrue, IsRight};
-ghost use Rattle.script.specs.Sequential.{IsSoFar, check_count, needs, result_of, told_within};
+ghost use Rattle.script.specs.Sequential.{IsSoFar, check_count, needs, result_of, told_within, verdicts_of};
 
+use clauses::verdict_says_what_is_met;
 use hs_tree::tree_lists_minimal_diagnoses;
 use pref_sets::{Property, fd_is_kept, qx_is_trimmed};
 
@@ -62,4 +65,12 @@ pub fn outcome_is_right<P: Property>()
     fd_is_kept::<P>();
     qx_is_trimmed::<P>();
     tree_lists_minimal_diagnoses::<P>();
+}
+
+/// On a problem each verdict that the sequential run tells is right, for which requirements can be met together.
+pub fn verdicts_of_a_problem_are_true()
+    ensures { (problem : ClauseProblem) (plan : JobPlan) (told : Told) → IsProblem problem →
+        IsSoFar plan (verdicts_of problem) told → AreTrue (AreMet problem) told }
+{
+    verdict_says_what_is_met();
 }

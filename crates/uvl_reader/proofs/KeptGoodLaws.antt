@@ -53,19 +53,19 @@ use Rattle.uvl_reader.proofs.NextLaws.{under_no_section}
 -- ---- what was read, where it was
 
 module _ {A : Type 0} where
-  ok_unless : (line : ℕ) (fault : Option Reason) (read : OrRefused A) (value : A) → unless line fault read ≡ Ok value → (fault ≡ None) × (read ≡ Ok value)
+  pub ok_unless : (line : ℕ) (fault : Option Reason) (read : OrRefused A) (value : A) → unless line fault read ≡ Ok value → (fault ≡ None) × (read ≡ Ok value)
   ok_unless line None read value e = (refl, e)
   ok_unless line (Some fault) read value e = absurd (cc)
 
-  ok_refused : (fault : Option Refusal) (read : OrRefused A) (value : A) → unless_refused fault read ≡ Ok value → (fault ≡ None) × (read ≡ Ok value)
+  pub ok_refused : (fault : Option Refusal) (read : OrRefused A) (value : A) → unless_refused fault read ≡ Ok value → (fault ≡ None) × (read ≡ Ok value)
   ok_refused None read value e = (refl, e)
   ok_refused (Some fault) read value e = absurd (cc)
 
-  ok_on : {B : Type 0} (f : A → B) (read : OrRefused A) (value : B) → on_ok f read ≡ Ok value → (x : A) × (read ≡ Ok x) × (f x ≡ value)
+  pub ok_on : {B : Type 0} (f : A → B) (read : OrRefused A) (value : B) → on_ok f read ≡ Ok value → (x : A) × (read ≡ Ok x) × (f x ≡ value)
   ok_on f (Ok x) value e = (x, refl, cc)
   ok_on f (Err refused) value e = absurd (cc)
 
-  ok_then : {B : Type 0} (f : A → OrRefused B) (read : OrRefused A) (value : B) → and_then f read ≡ Ok value → (x : A) × (read ≡ Ok x) × (f x ≡ Ok value)
+  pub ok_then : {B : Type 0} (f : A → OrRefused B) (read : OrRefused A) (value : B) → and_then f read ≡ Ok value → (x : A) × (read ≡ Ok x) × (f x ≡ Ok value)
   ok_then f (Ok x) value e = (x, refl, e)
   ok_then f (Err refused) value e = absurd (cc)
 

@@ -2,6 +2,7 @@ pub mod AttributeLaws
 pub mod ChildLaws
 pub mod ConstraintLaws
 pub mod FinalLaws
+pub mod FormedLaws
 pub mod GoodLaws
 pub mod GroupLaws
 pub mod GrowthLaws

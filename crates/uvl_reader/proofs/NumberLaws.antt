@@ -1,6 +1,9 @@
 -- The numbers of the lines of a text rise.
-use Rattle.std.proofs.Common.{◌≡◌, ℕ, zero, suc, ◌+◌, ◌-◌, ◌≤◌, ◌==◌, ◌&&◌, nat_le, nat_lt, Bool, true, false, List, [], ◌∷◌, map, Option, Some, None, Ok, Err, refl, subst, arith, inl, inr}
+use Rattle.std.proofs.Common.{◌≡◌, ℕ, zero, suc, ◌+◌, ◌-◌, ◌<◌, ◌≤◌, ◌==◌, ◌&&◌, nat_le, nat_lt, Bool, true, false, List, [], ◌∷◌, map, All, Option, Some, None, Ok, Err, refl, subst, arith, inl, inr}
 use Rattle.std.proofs.lemmas.Bool.{cases_Bool}
+use Rattle.std.proofs.lemmas.List.Elements.{All-nil, All-cons, All-weaker}
+use Rattle.std.proofs.lemmas.List.Kept.{AllPairs-cons}
+use Rattle.std.specs.List.{AllPairs}
 use Rattle.std.specs.Str.{is_utf8, chars}
 use Rattle.uvl_lex.specs.declared.bracket.Bracket.{Bracket}
 use Rattle.uvl_lex.specs.declared.piece.Piece.{Piece}
@@ -13,6 +16,7 @@ use Rattle.uvl_lex.specs.Pieces.{PlacedPiece, first_piece, longest, candidates, 
 use Rattle.uvl_lex.specs.declared.token.Mark.{Mark as Sign}
 use Rattle.uvl_lex.specs.Words.{marks}
 use Rattle.uvl_lex.specs.Reading.{OrFault, Run, run_of, on_ok, all_lines, at_token, token_at, token_before, line_end_before, brackets_after, lines_of, pieces_of, reading}
+use Rattle.uvl_reader.specs.Laws.{NumbersRise, LineNumbersRise, JudgedNumbersRise}
 use Rattle.uvl_reader.specs.Nesting.{judged_lines, begins_with_include}
 use Rattle.uvl_reader.proofs.PlacedLaws.{Each, each_append, AllLess, Falling, less_weaker}
 use Rattle.uvl_reader.proofs.MainLaws.{turned}
@@ -208,3 +212,27 @@ falling_turned (line ∷ lines) before least less f h =
 
 pub judged_falling : (bytes : List ℕ) (lines : List Line) → reading bytes ≡ Ok lines → Falling (turned (judged_lines false lines) [])
 judged_falling bytes lines e = falling_turned (judged_lines false lines) [] 1 tt tt (judged_climbs lines 1 false (reading_climbs bytes lines e))
+
+-- ---- the numbers rise
+
+climbs_all : (lines : List Line) (least : ℕ) → Climbs least lines → All (λ line. least ≤ line.number) lines
+climbs_all [] least h = All-nil (λ line. least ≤ line.number)
+climbs_all (line ∷ lines) least h =
+    All-cons (λ line. least ≤ line.number) line lines h.0
+    (climbs_all lines least (climbs_weaker least (line.number + 1) lines (let k = h.0 in omega arith) h.1))
+
+climbs_pairs : (lines : List Line) (least : ℕ) → Climbs least lines → AllPairs (λ line later. line.number < later.number) lines
+climbs_pairs [] least h = λ i j d before within. absurd (omega arith)
+climbs_pairs (line ∷ lines) least h =
+    AllPairs-cons (λ line later. line.number < later.number) line lines
+    (All-weaker (λ later. line.number + 1 ≤ later.number) (λ later. line.number < later.number) (λ later k. omega arith) lines (climbs_all lines (line.number + 1) h.1))
+    (climbs_pairs lines (line.number + 1) h.1)
+
+rising : (lines : List Line) → Climbs 1 lines → NumbersRise lines
+rising lines h = record { counted = climbs_all lines 1 h; rise = climbs_pairs lines 1 h }
+
+pub line_numbers_rise : LineNumbersRise
+line_numbers_rise bytes lines e = rising lines (reading_climbs bytes lines e)
+
+pub judged_numbers_rise : JudgedNumbersRise
+judged_numbers_rise bytes lines e = rising (judged_lines false lines) (judged_climbs lines 1 false (reading_climbs bytes lines e))

@@ -1,5 +1,6 @@
 pub mod Attributes
 pub mod Examples
+pub mod Laws
 pub mod LineKinds
 pub mod ModelReading
 pub mod Nesting

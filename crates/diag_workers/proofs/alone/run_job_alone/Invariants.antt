@@ -1,0 +1,14 @@
+-- so far each key that was wanted was told with its verdict, and nothing else
+use Rattle.std.proofs.Common.{◌≡◌, ◌-◌, length}
+use Rattle.script.specs.Sequential.{IsSoFar, check_count, verdicts_of}
+use Rattle.diag_workers.proofs.alone.run_job_alone.Given as goal
+
+abbrev pub invariant-checks : goal.invariant-checks
+invariant-checks l =
+    record {
+      plan : l.run.plan ≡ l.plan;
+      far : IsSoFar l.plan (verdicts_of l.problem) l.run.told;
+    }
+
+abbrev pub decreases-checks : goal.decreases-checks
+decreases-checks l = check_count l.plan - length l.run.told
