@@ -46,9 +46,9 @@ status_well outcome.Background = tt
 status_well (outcome.Explained parts) = tt
 status_well (outcome.LimitAt part key before) = tt
 
-either_well : (test : Bool) (yes no : Reply) → IsOfAnAnswer yes.status → IsOfAnAnswer no.status → IsOfAnAnswer (cond test yes no).status
-either_well true yes no a b = a
-either_well false yes no a b = b
+either_well : (test : Bool) (one other : Reply) → IsOfAnAnswer one.status → IsOfAnAnswer other.status → IsOfAnAnswer (cond test one other).status
+either_well true one other a b = a
+either_well false one other a b = b
 
 advice_well : (model : FeatureModel) (config : Configuration) (settings : Settings) → IsOfAnAnswer (advice model config settings).status
 advice_well model config settings =

@@ -1,9 +1,10 @@
 -- What a job of the code came to is what the definition says.
-use Rattle.std.proofs.Common.{◌≡◌, ℕ, List, length, map, Some, refl, sym, ap, subst, ◌∙◌}
-use Rattle.std.specs.Prelude.{Option, unwrap_or}
+use Rattle.std.proofs.Common.{◌≡◌, ℕ, ◌≤◌, Bool, false, cond, List, length, map, Some, arith, refl, sym, ap, subst, ◌∙◌}
+use Rattle.std.specs.Prelude.{Option, Result, Ok, Err, IfOk, nat_lt, unwrap_or}
+use Rattle.std.proofs.lemmas.Bool.Decides.{nat_tests}
 use Rattle.std.proofs.lemmas.List.{length-map}
 use Rattle.clauses.specs.Problem.{ClauseProblem}
-use Rattle.clause_form.specs.ClauseForm.{problem_of, first_root}
+use Rattle.clause_form.specs.ClauseForm.{needed, problem_of, first_root}
 use Rattle.clause_form.proofs.ProblemLaws.{length-literals}
 use Rattle.command_line.specs.Words.{Settings}
 use Rattle.config_reader.specs.declared.config.Requirement.{Requirement}
@@ -15,7 +16,9 @@ use Rattle.script.specs.declared.job.Outcome.{Outcome}
 use Rattle.script.specs.declared.job.Outcome.TheVariants as outcome
 use Rattle.script.specs.Job.{Told}
 use Rattle.script.specs.Sequential.{needs, result_of, verdicts_of}
-use Rattle.diag_top.specs.Answer.{Judged, judged, plan_of}
+use Rattle.diag_top.specs.Answer.{Judged, MOST_VARIABLES, advice, judged, plan_of, reported, reported_after, second_of}
+use Rattle.diag_top.specs.Refusals.{too_large}
+use Rattle.diag_top.specs.Work.{Reply}
 
 -- a root for each requirement
 pub root_count : (model : FeatureModel) (config : Configuration) (settings : Settings) → length (problem_of model config settings.allowance settings.rungs).roots ≡ length config.requirements
@@ -43,3 +46,25 @@ job_done model config settings list problem requirements out told is n result ne
     ∙ ap (λ (p : JobPlan). needs p (verdicts_of (problem_of model config settings.allowance settings.rungs))) plan) in
     ap (λ (o : Outcome). record { outcome = o; checks = length told }) ended
     ∙ ap (λ (k : ℕ). record { outcome = (judged model config settings list).outcome; checks = k }) counted
+
+-- ---- the reply
+
+not_more : (a b : ℕ) → b ≤ a → nat_lt a b ≡ false
+not_more a b l = grind (arith, nat_tests)
+
+as_advised : (model : FeatureModel) (config : Configuration) (settings : Settings) (first : Judged) (second : Option Judged)
+    → needed model config ≤ MOST_VARIABLES → first ≡ judged model config settings settings.list
+    → second ≡ second_of model config settings first.outcome config.musts → reported model config settings first second ≡ advice model config settings
+as_advised model config settings first second fits is found =
+    ap (reported model config settings first) found
+    ∙ ap (reported_after model config settings) is
+    ∙ sym (ap (λ (large : Bool). cond large (too_large (needed model config)) (reported_after model config settings (judged model config settings settings.list)))
+    (not_more MOST_VARIABLES (needed model config) fits))
+
+-- what is replied with these jobs is the advice
+pub advised : {E : Type 0} (replied : Result Reply E) (model : FeatureModel) (config : Configuration) (settings : Settings) (first : Judged) (second : Option Judged)
+    → needed model config ≤ MOST_VARIABLES → first ≡ judged model config settings settings.list
+    → second ≡ second_of model config settings first.outcome config.musts
+    → IfOk replied (λ reply. reply ≡ reported model config settings first second) → IfOk replied (λ reply. reply ≡ advice model config settings)
+advised (Ok reply) model config settings first second fits is found r = r ∙ as_advised model config settings first second fits is found
+advised (Err e) model config settings first second fits is found r = tt

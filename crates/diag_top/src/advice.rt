@@ -66,7 +66,15 @@ fn reported(
         wasted: 0,
     };
     let found = second.map(|job| &job.outcome);
-    let text = report_of(alloc, model, config, limits.list, &first.outcome, found, counts)?;
+    let text = report_of(
+        alloc,
+        model,
+        config,
+        limits.list,
+        &first.outcome,
+        found,
+        counts,
+    )?;
     Ok(Reply {
         status: status_of(&first.outcome),
         text,

@@ -1,10 +1,10 @@
 //! What holds of every answer and of every outcome.
+ghost use Rattle.diag_top.specs.Laws.{AdviceIsRight, AnswersAreNoFaults};
+
 use config_reader::Config;
 use feature_tree::Model;
 use pref_sets::Property;
 use script::outcome_is_right;
-
-ghost use Rattle.diag_top.specs.Laws.{AdviceIsRight, AnswersAreNoFaults};
 
 /// An answer is never want of memory or a fault, so that the ends of a run exclude each other.
 pub fn answers_are_no_faults()

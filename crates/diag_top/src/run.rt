@@ -66,13 +66,15 @@ fn reply_to<F: Shelf>(alloc: Global, words: &[String], shelf: &mut F) -> Result<
 {
     match read_words(words) {
         None => Reply::of(alloc, Status::BadWords, b"words refused\n"),
-        Some(Command::Diagnose {
-            model,
-            config,
-            allowance,
-            rungs,
-            list,
-        }) => {
+        Some(
+            Command::Diagnose {
+                model,
+                config,
+                allowance,
+                rungs,
+                list,
+            },
+        ) => {
             let limits = Limits {
                 allowance,
                 rungs,

@@ -8,7 +8,7 @@ const PHONE: &[u8] =
     b"features\n\tPhone\n\t\tmandatory\n\t\t\tScreen\n\t\t\t\talternative\n\t\t\t\t\tBasic\n\t\t\t\t\tColour\n\t\toptional\n\t\t\tCamera\n\t\t\tGPS\nconstraints\n\tCamera => Colour\n";
 
 const EXPLAINED: &[u8] =
-    b"diag 1\nmodel 6 features 1 constraints\nrequirements 3\nresult explained\ndiagnosis 1\n  2 Basic\nend\n";
+    b"diag 1\nmodel 6 features 1 constraints\nrequirements 3\nresult explained\ndiagnosis 1\n  2 Basic\nconflict 2\n  1 Camera\n  2 Basic\nlisting 2 size 3\n  2\n  1\nchecks 7 predicted 0 wasted 0\nend\n";
 
 fn words_of(alloc: Global, words: &[&str]) -> Result<Vec<String>, AllocError> {
     let mut all = Vec::new(alloc);
@@ -27,7 +27,7 @@ fn phone(alloc: Global) -> Result<MemShelf, AllocError> {
 
 #[test]
 fn the_advice_is_written(rt: HostRuntime) -> Result<(), Fail> {
-    let words = words_of(rt.alloc(), &["diagnose", "m", "c", "--rungs", "1"])?;
+    let words = words_of(rt.alloc(), &["diagnose", "m", "c", "--list", "3"])?;
     let mut shelf = phone(rt.alloc())?;
     let mut sink = MemSink::new(rt.alloc(), 10_000)?;
     let status = run_alone(rt.alloc(), words.as_slice(), &mut shelf, &mut sink);

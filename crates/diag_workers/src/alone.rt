@@ -27,6 +27,8 @@ pub fn run_job_alone(
     ensures posted { IfOk result (λ finished. finished.posted ≡ []) }
     ensures wasted { IfOk result (λ finished. finished.wasted ≡ 0) }
 {
+    let same = plan.requirements == problem.n();
+    prove!(same);
     let mut run = Run::new(alloc, plan)?;
     'checks: while let Want::Ask(key) = run.want() {
         let verdict = verdict_on(alloc, problem, key)?;

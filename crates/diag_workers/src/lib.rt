@@ -8,6 +8,3 @@ mod options;
 
 pub use alone::run_job_alone;
 pub use options::Options;
-
-#[cfg(test)]
-mod tests;

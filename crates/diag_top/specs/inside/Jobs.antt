@@ -4,7 +4,7 @@ use Rattle.command_line.specs.Words.{Settings}
 use Rattle.clause_form.specs.ClauseForm.{needed}
 use Rattle.config_reader.specs.Configuration.{Configuration}
 use Rattle.feature_tree.specs.FeatureModel.{FeatureModel}
-use Rattle.script.specs.declared.finished.Finished.{Finished}
+use Rattle.script.specs.declared.run.Finished.{Finished}
 use Rattle.diag_top.specs.declared.advice.Limits.{Limits}
 use Rattle.diag_top.specs.declared.advice.Job.{Job}
 use Rattle.diag_top.specs.declared.advice.Job.TheVariants.{Done, TooLarge}

@@ -11,6 +11,7 @@ use Rattle.diag_top.proofs.advice.second_job.Goals as goal
 pub returns : goal.returns
 returns c =
     let model = c.args.model.now in
-    let done : IsDone model c.in_ok-finished.musts (set c.args.limits) None (TooLarge c.in-TooLarge.field-0) = ? in
+    let done : IsDone model c.in_ok-musts.musts (set c.args.limits) None (TooLarge c.in-TooLarge.field-0) =
+    subst (IsDone model c.in_ok-musts.musts (set c.args.limits) None) c.in-TooLarge.is c.in_ok-finished.ensures in
     let many = subst (λ (config : Configuration). MOST_VARIABLES < needed model config) c.in_ok-musts.ensures done.0 in
     absurd (omega (arith, many, musts_need_no_more model c.args.config.now, c.requires.fits))

@@ -6,9 +6,9 @@ use Rattle.diag_workers.proofs.alone.run_job_alone.Given as goal
 abbrev pub invariant-checks : goal.invariant-checks
 invariant-checks l =
     record {
-      plan : l.run.plan ≡ l.plan;
-      far : IsSoFar l.plan (verdicts_of l.problem) l.run.told;
+      plan : l.run.plan ≡ l.fn.plan;
+      far : IsSoFar l.fn.plan (verdicts_of l.problem) l.run.told;
     }
 
 abbrev pub decreases-checks : goal.decreases-checks
-decreases-checks l = check_count l.plan - length l.run.told
+decreases-checks l = check_count l.fn.plan - length l.run.told
