@@ -9,7 +9,7 @@ mod number;
 mod options;
 mod status;
 
-pub use command::{Command, read_words};
+pub use command::{Command, What, read_words};
 pub use laws::words_say_one_request;
 pub use status::Status;
 

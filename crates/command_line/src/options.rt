@@ -1,7 +1,7 @@
 //! The options of a command line, in any order and each at most once.
-ghost use Rattle.std.specs.Prelude.{◌≡◌, map, option_map, unwrap_or, IfSome};
+ghost use Rattle.std.specs.Prelude.{◌≡◌, false, map, option_map, unwrap_or, IfSome};
 ghost use Rattle.std.specs.String.{string_bytes};
-ghost use Rattle.command_line.specs.Words.{AreAllowed, settings_of, Allowance, Listing, Rungs, chosen_with, chosen_by, chosen_from, nothing_chosen};
+ghost use Rattle.command_line.specs.Words.{Ahead, Allowance, AreAllowed, Certify, Listing, Rungs, chosen_by, chosen_from, chosen_with, nothing_chosen, settings_of};
 ghost use Rattle.command_line.specs.inside.Chosen.{chosen};
 
 use crate::number::number_of;
@@ -15,12 +15,17 @@ const MOST_RUNGS: u64 = 4;
 /// Up to which size diagnoses may be listed.
 const MOST_LISTED: u64 = 4_096;
 
+/// How many answers may be guessed ahead.
+const MOST_AHEAD: u64 = 6;
+
 /// What the options read so far choose.
 #[derive(Clone, Copy, Debug)]
 pub struct Options {
     allowance: Option<u64>,
     rungs: Option<u8>,
     list: Option<u32>,
+    ahead: Option<u8>,
+    certify: Option<bool>,
 }
 
 impl Options {
@@ -33,17 +38,24 @@ impl Options {
             allowance: None,
             rungs: None,
             list: None,
+            ahead: None,
+            certify: None,
         };
         let mut rest = words;
         'options: while let Some((name, after)) = rest.split_first() {
-            let (value, after) = after.split_first()?;
-            options = options.with(name.as_str(), value.as_str())?;
-            rest = after;
+            if name.as_str() == "--certify" {
+                options = options.with_certify()?;
+                rest = after;
+            } else {
+                let (value, after) = after.split_first()?;
+                options = options.with(name.as_str(), value.as_str())?;
+                rest = after;
+            }
         }
         Some(options)
     }
 
-    /// With one more option, which must be new and its value one that may be chosen.
+    /// With one more option that has a number, which must be new and the number one that may be chosen.
     fn with(self, name: &str, value: &str) -> Option<Options>
         requires { AreAllowed (settings_of (chosen self)) }
         ensures allowed { IfSome result (λ options. AreAllowed (settings_of (chosen options))) }
@@ -56,6 +68,8 @@ impl Options {
             self.with_rungs(number)
         } else if name == "--list" {
             self.with_list(number)
+        } else if name == "--ahead" {
+            self.with_ahead(number)
         } else {
             None
         }
@@ -97,6 +111,30 @@ impl Options {
         Some(Options { list, ..self })
     }
 
+    fn with_ahead(self, answers: u64) -> Option<Options>
+        requires { AreAllowed (settings_of (chosen self)) }
+        ensures allowed { IfSome result (λ options. AreAllowed (settings_of (chosen options))) }
+        ensures chosen { chosen_with (chosen self) (Ahead answers) ≡ option_map chosen result }
+    {
+        if self.ahead.is_some() || answers > MOST_AHEAD {
+            return None;
+        }
+        let ahead = Some(answers as u8);
+        Some(Options { ahead, ..self })
+    }
+
+    fn with_certify(self) -> Option<Options>
+        requires { AreAllowed (settings_of (chosen self)) }
+        ensures allowed { IfSome result (λ options. AreAllowed (settings_of (chosen options))) }
+        ensures chosen { chosen_with (chosen self) Certify ≡ option_map chosen result }
+    {
+        if self.certify.is_some() {
+            return None;
+        }
+        let certify = Some(true);
+        Some(Options { certify, ..self })
+    }
+
     /// Up to which size the minimal diagnoses are listed, if they are.
     pub fn list(self) -> Option<u32>
         ensures { result ≡ self.list }
@@ -116,5 +154,19 @@ impl Options {
         ensures { result ≡ unwrap_or self.rungs 0 }
     {
         self.rungs.unwrap_or(0)
+    }
+
+    /// How many answers are guessed ahead.
+    pub fn ahead(self) -> u8
+        ensures { result ≡ unwrap_or self.ahead 0 }
+    {
+        self.ahead.unwrap_or(0)
+    }
+
+    /// Whether a certificate follows the report.
+    pub fn certify(self) -> bool
+        ensures { result ≡ unwrap_or self.certify false }
+    {
+        self.certify.unwrap_or(false)
     }
 }

@@ -15,15 +15,26 @@ fn words_of(alloc: Global, words: &[&str]) -> Result<Vec<String>, AllocError> {
 fn words_are_read(rt: HostRuntime) -> Result<(), Fail> {
     let words = words_of(
         rt.alloc(),
-        &["diagnose", "m", "c", "--rungs", "2", "--allowance", "70"],
+        &[
+            "diagnose",
+            "m",
+            "c",
+            "--rungs",
+            "2",
+            "--certify",
+            "--allowance",
+            "70",
+        ],
     )?;
     let command = read_words(words.as_slice());
     let said = Command::Diagnose {
         model: "m",
         config: "c",
+        ahead: 0,
         allowance: 70,
         rungs: 2,
         list: None,
+        certify: true,
     };
     assert_eq!(rt; command, Some(said));
     assert_eq!(rt; Status::TooLarge.code(), 67);

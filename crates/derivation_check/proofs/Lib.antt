@@ -1,3 +1,4 @@
 pub mod CheckLaws
+pub mod CheckerLaws
 pub mod LineLaws
 pub mod NegationLaws

@@ -19,7 +19,7 @@ use Rattle.derivation_check.proofs.NegationLaws.{negations, clash-append}
 
 -- ---- the order of clauses
 
-swap : (a b c : List (List Lit)) → IsPart ((a ++ b) ++ c) ((a ++ c) ++ b)
+pub swap : (a b c : List (List Lit)) → IsPart ((a ++ b) ++ c) ((a ++ c) ++ b)
 swap a b c clause m =
     ⊎_elim
     (λ (front : Contains (a ++ b) clause).

@@ -1,2 +1,4 @@
--- What serves private functions.
+-- What serves private functions and the invariant of a checker.
+pub mod Assumed
+pub mod Checked
 pub mod Negations

@@ -6,11 +6,8 @@ ghost use Rattle.diag_base.specs.Shelf.{Counts, IsShort};
 use diag_base::{Bytes, FetchError, Fetched, Shelf};
 use std::alloc::{AllocError, Global};
 use std::fs;
-use std::io::Read;
+use std::io::{self, Read};
 use std::rt::Files;
-
-/// How many bytes one read asks for.
-const CHUNK: usize = 4096;
 
 /// The files of the system. It tells no bytes; only its count of faults is known.
 #[derive(Drop)]
@@ -44,8 +41,8 @@ impl<R: Files> Shelf for FileShelf<R> {
         ensures counts { Counts self.old.faults self.new.faults result }
     {
         let fetched = match fs::open(&self.files, name) {
-            Ok(mut file) => read_most(alloc, &mut file, most),
-            Err(_) => Err(FetchError::Failed),
+            Ok(file) => read_most(alloc, file, most),
+            Err(error) => Err(fault_of(&error)),
         };
         if let Err(FetchError::Failed) = fetched {
             self.faults = self.faults.saturating_add(1);
@@ -54,20 +51,23 @@ impl<R: Files> Shelf for FileShelf<R> {
     }
 }
 
-/// Reads all bytes, or one more than `most`. Each turn takes at least one byte.
-fn read_most<F: Read>(alloc: Global, file: &mut F, most: usize) -> Result<Fetched, FetchError>
+/// Reads all bytes, or one more than `most`. A read that was interrupted is made again.
+fn read_most<F: Read + Drop>(alloc: Global, file: F, most: usize) -> Result<Fetched, FetchError>
     requires { most < 2 ^ 31 }
     ensures { IsShort most result }
 {
-    let mut bytes = Bytes::new(alloc);
-    let mut chunk = [0; CHUNK];
-    'turns: while bytes.len() <= most {
-        let want = CHUNK.min(most + 1 - bytes.len());
-        match file.read(&mut chunk[..want]) {
-            Err(_) => return Err(FetchError::Failed),
-            Ok(0) => return Ok(Fetched::Whole(bytes)),
-            Ok(count) => bytes.extend_from_slice(&chunk[..count])?,
-        }
+    let mut bytes = Vec::new(alloc);
+    match file.take(most as u64 + 1).read_to_end(&mut bytes) {
+        Err(error) => Err(fault_of(&error)),
+        Ok(_) if bytes.len() <= most => Ok(Fetched::Whole(Bytes::from_vec(bytes))),
+        Ok(_) => Ok(Fetched::Longer),
     }
-    Ok(Fetched::Longer)
+}
+
+/// What an error of the system is to a fetch.
+fn fault_of(error: &io::Error) -> FetchError {
+    match error.kind() {
+        io::ErrorKind::OutOfMemory => FetchError::Memory,
+        _ => FetchError::Failed,
+    }
 }

@@ -26,7 +26,7 @@ impl<W: Write> Sink for OutSink<W> {
 
     ghost faults = { λ sink. sink.faults };
 
-    /// A write that takes nothing of a piece that isn't empty is a fault.
+    /// A write that was interrupted is made again; one that takes nothing of a piece that isn't empty is a fault.
     fn put(&mut self, bytes: &[u8]) -> Result<(), PutFailed>
         ensures failed { OnErr result (Rises self.old.faults self.new.faults) }
         ensures never_falls { self.old.faults ≤ self.new.faults }
@@ -34,18 +34,9 @@ impl<W: Write> Sink for OutSink<W> {
         // It counts each failure once.
         ensures counts { Counts self.old.faults self.new.faults result }
     {
-        let mut rest = bytes;
-        'writes: while !rest.is_empty() {
-            match self.out.write(rest) {
-                Ok(count) if 0 < count => {
-                    let (_, after) = rest.split_at(count);
-                    rest = after;
-                }
-                _ => {
-                    self.faults = self.faults.saturating_add(1);
-                    return Err(PutFailed);
-                }
-            }
+        if self.out.write_all(bytes).is_err() {
+            self.faults = self.faults.saturating_add(1);
+            return Err(PutFailed);
         }
         Ok(())
     }

@@ -1,8 +1,8 @@
 -- Right verdicts on a problem are right of the model and the configuration that it was made of.
-use Rattle.std.proofs.Common.{◌≡◌, ℕ, ◌≤◌, List, [], length, Some, None, arith, refl, sym, ap, subst, ◌∙◌}
+use Rattle.std.proofs.Common.{◌≡◌, ℕ, List, length, Some, None, sym, ap, subst}
 use Rattle.std.specs.Prelude.{Option, ◌↔◌}
 use Rattle.clauses.specs.Met.{AreMet, IsMet}
-use Rattle.clauses.specs.Problem.{ClauseProblem, IsProblem}
+use Rattle.clauses.specs.Problem.{IsProblem}
 use Rattle.clauses.specs.Search.{verdict_on}
 use Rattle.clauses.proofs.MetLaws.{met-within, sat-met, unsat-unmet}
 use Rattle.clause_form.specs.ClauseForm.{problem_of}
@@ -12,7 +12,6 @@ use Rattle.command_line.specs.Words.{Settings}
 use Rattle.config_reader.specs.Configuration.{Configuration}
 use Rattle.config_reader.specs.Consistent.{AreConsistent}
 use Rattle.feature_tree.specs.FeatureModel.{FeatureModel}
-use Rattle.pref_sets.specs.Preferred.{IsWithin}
 use Rattle.pref_sets.specs.Properties.{PassesToFewer}
 use Rattle.req_keys.specs.Key.{PositionSet}
 use Rattle.req_keys.specs.Wanting.{key_over}

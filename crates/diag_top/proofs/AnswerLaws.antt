@@ -1,10 +1,10 @@
 -- An answer is no fault.
-use Rattle.std.proofs.Common.{◌≡◌, ℕ, Bool, true, false, cond, List, [], ◌∷◌, Some, None, refl, ap, subst, sym}
+use Rattle.std.proofs.Common.{◌≡◌, ℕ, Bool, true, false, cond, List, Some, None, subst}
 use Rattle.std.specs.Prelude.{Option, Result, Ok, Err, nat_lt}
 use Rattle.std.specs.Option.{option_and_then}
 use Rattle.std.proofs.lemmas.Option.{none-some, same_Some}
-use Rattle.command_line.specs.Words.{Settings, Request, Diagnose, request_of}
-use Rattle.clause_form.specs.ClauseForm.{needed}
+use Rattle.command_line.specs.Words.{Settings, Request, Diagnose, Verify, Generate, request_of}
+use Rattle.clause_form.specs.ClauseForm.{needed, problem_of}
 use Rattle.config_reader.specs.Configuration.{Configuration}
 use Rattle.config_reader.specs.Reading.{configuration}
 use Rattle.config_reader.specs.declared.error.ConfigError.{ConfigError}
@@ -17,9 +17,12 @@ use Rattle.script.specs.declared.job.Outcome.{Outcome}
 use Rattle.script.specs.declared.job.Outcome.TheVariants as outcome
 use Rattle.uvl_reader.specs.ModelReading.{model_of}
 use Rattle.uvl_reader.specs.Refusals.{Refusal}
-use Rattle.diag_top.specs.Answer.{MOST_VARIABLES, Judged, judged, reported_after, status_of, advice, with_config, with_config_file, with_model, with_model_file, work_of, work_for}
+use Rattle.diag_top.specs.Answer.{MOST_VARIABLES, judged, reported_after, status_of, advice, advised, verified, verdict_on_certificate, with_config, with_config_file, with_model, with_model_file, with_certificate_file, work_of, work_for}
 use Rattle.diag_top.specs.Laws.{AnswersAreNoFaults}
-use Rattle.diag_top.specs.Refusals.{too_large}
+use Rattle.certificate.specs.Judging.{judge}
+use Rattle.certificate.specs.declared.judgement.Judgement.{Judgement}
+use Rattle.certificate.specs.declared.judgement.Judgement.TheVariants as judgement
+use Rattle.diag_top.specs.Refusals.{judgement_reply, too_large}
 use Rattle.diag_top.specs.Run.{IsOfAnAnswer}
 use Rattle.diag_top.specs.Work.{Reply, Work, Done, Fetch, handed, replied}
 
@@ -55,26 +58,41 @@ advice_well model config settings =
     either_well (nat_lt MOST_VARIABLES (needed model config)) (too_large (needed model config))
     (reported_after model config settings (judged model config settings settings.list)) tt (status_well (judged model config settings settings.list).outcome)
 
-config_well : (model : FeatureModel) (settings : Settings) (read : Result Configuration ConfigError) → IsOfAnAnswer (with_config model settings read).status
-config_well model settings (Ok config) = advice_well model config settings
-config_well model settings (Err (config.Refused line reason)) = tt
-config_well model settings (Err config.Memory) = tt
+config_well : (next : Configuration → Work) (read : Result Configuration ConfigError) → ((config : Configuration) → EndsWell (next config)) → EndsWell (with_config next read)
+config_well next (Ok config) well = well config
+config_well next (Err (config.Refused line reason)) well = tt
+config_well next (Err config.Memory) well = tt
 
-config_file_well : (model : FeatureModel) (settings : Settings) (file : Fetched) → EndsWell (with_config_file model settings file)
-config_file_well model settings Longer = tt
-config_file_well model settings (Whole bytes) = config_well model settings (configuration bytes model)
+config_file_well : (model : FeatureModel) (next : Configuration → Work) → ((config : Configuration) → EndsWell (next config)) → (file : Fetched) → EndsWell (with_config_file model next file)
+config_file_well model next well Longer = tt
+config_file_well model next well (Whole bytes) = config_well next (configuration bytes model) well
 
-model_well : (config : List ℕ) (settings : Settings) (read : Result FeatureModel Refusal) → EndsWell (with_model config settings read)
-model_well config settings (Ok model) = config_file_well model settings
-model_well config settings (Err refused) = tt
+model_well : (config : List ℕ) (next : FeatureModel → Configuration → Work) (read : Result FeatureModel Refusal) → ((model : FeatureModel) (config : Configuration) → EndsWell (next model config)) → EndsWell (with_model config next read)
+model_well config next (Ok model) well = config_file_well model (next model) (well model)
+model_well config next (Err refused) well = tt
 
-model_file_well : (config : List ℕ) (settings : Settings) (file : Fetched) → EndsWell (with_model_file config settings file)
-model_file_well config settings Longer = tt
-model_file_well config settings (Whole bytes) = model_well config settings (model_of bytes)
+model_file_well : (config : List ℕ) (next : FeatureModel → Configuration → Work) → ((model : FeatureModel) (config : Configuration) → EndsWell (next model config)) → (file : Fetched) → EndsWell (with_model_file config next file)
+model_file_well config next well Longer = tt
+model_file_well config next well (Whole bytes) = model_well config next (model_of bytes) well
+
+judgement_well : (judged : Judgement) → IsOfAnAnswer (judgement_reply judged).status
+judgement_well (judgement.Yes shown) = tt
+judgement_well (judgement.No line why) = tt
+
+verified_well : (model : FeatureModel) (config : Configuration) (bytes : List ℕ) → IsOfAnAnswer (verdict_on_certificate model config bytes).status
+verified_well model config bytes =
+    either_well (nat_lt MOST_VARIABLES (needed model config)) (too_large (needed model config)) (judgement_reply (judge model config (problem_of model config 0 0) bytes)) tt
+    (judgement_well (judge model config (problem_of model config 0 0) bytes))
+
+certificate_file_well : (model : FeatureModel) (config : Configuration) (file : Fetched) → EndsWell (with_certificate_file model config file)
+certificate_file_well model config Longer = tt
+certificate_file_well model config (Whole bytes) = verified_well model config bytes
 
 work_well : (asked : Option Request) → EndsWell (work_of asked)
 work_well None = tt
-work_well (Some (Diagnose model config settings)) = model_file_well config settings
+work_well (Some (Diagnose model config settings)) = model_file_well config (advised settings) (λ m c. advice_well m c settings)
+work_well (Some (Verify model config certificate)) = model_file_well config (verified certificate) certificate_file_well
+work_well (Some (Generate seed size what)) = tt
 
 pub answers_are_no_faults : AnswersAreNoFaults
 answers_are_no_faults words files reply e = ends_well files (work_for words) reply (work_well (request_of words)) e

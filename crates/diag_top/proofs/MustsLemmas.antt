@@ -1,12 +1,12 @@
 -- The problem of the musts alone has no more variables than that of the requirements with the musts.
-use Rattle.std.proofs.Common.{◌≡◌, ℕ, ◌+◌, ◌≤◌, List, [], ◌∷◌, ◌++◌, map, length, arith, refl, sym, ap, ◌∙◌}
+use Rattle.std.proofs.Common.{◌≡◌, ℕ, ◌+◌, ◌≤◌, List, [], ◌∷◌, ◌++◌, map, arith, refl, ap}
 use Rattle.feature_tree.specs.declared.formula.Formula.{Formula}
 use Rattle.feature_tree.specs.FeatureModel.{FeatureModel}
 use Rattle.config_reader.specs.Configuration.{Configuration, of_musts}
 use Rattle.config_reader.specs.Consistent.{formulas_of}
-use Rattle.clause_form.specs.ClauseForm.{asserted, asserted_parts, group_parts, needed, parts_of, variables_of}
+use Rattle.clause_form.specs.ClauseForm.{asserted, group_parts, needed, parts_of, variables_of}
 use Rattle.clause_form.specs.Gates.{gates, gates_of}
-use Rattle.clause_form.specs.Parts.{Part, capped, size, size_of}
+use Rattle.clause_form.specs.Parts.{Part, size, size_of}
 
 size_of-append : (a b : List Part) → size_of (a ++ b) ≡ size_of a + size_of b
 size_of-append [] b = omega arith

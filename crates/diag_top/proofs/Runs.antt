@@ -1,15 +1,15 @@
 -- From what was fetched and read to how a run ends.
-use Rattle.std.proofs.Common.{◌≡◌, ◌≢◌, inl, inr, ℕ, ◌++◌, List, [], take, Some, None, refl, ap, sym, subst, ◌∙◌}
-use Rattle.std.specs.Prelude.{Option, IfSome, option_map, ◌⊎◌, ◌≤◌, length}
+use Rattle.std.proofs.Common.{◌≡◌, inl, inr, ℕ, ◌++◌, List, take, Some, refl, ap, sym, subst, ◌∙◌}
+use Rattle.std.specs.Prelude.{Option, IfSome, option_map, ◌⊎◌}
 use Rattle.command_line.specs.declared.status.Status.{Status}
 use Rattle.command_line.specs.declared.status.Status.TheVariants as status
 use Rattle.diag_base.specs.Faults.{Rises}
 use Rattle.diag_base.specs.Shelf.{Files}
 use Rattle.diag_base.specs.Sink.{Gains, GainsPart}
 use Rattle.diag_base.specs.declared.shelf.Fetched.{Fetched}
-use Rattle.diag_top.specs.Work.{Reply, Role, Work, Done, Fetch, handed, replied, ComesTo}
-use Rattle.diag_top.specs.Run.{fault_text, IsReadFault, Counts, IsPrefix, IsAnswer, IsText, IsRun, Answers, WantsMemory, LosesFile, LosesSink, HasNoFault, IsComplete}
-use Rattle.diag_top.specs.inside.Follows.{read_failed, Follows}
+use Rattle.diag_top.specs.Work.{Reply, Role, Work, Done, Fetch, handed, replied}
+use Rattle.diag_top.specs.Run.{IsReadFault, Counts, IsText, IsRun, Answers, WantsMemory, LosesFile, LosesSink, HasNoFault, IsComplete}
+use Rattle.diag_top.specs.inside.Follows.{Follows}
 
 -- a lost file that the work comes to after a fetch
 later : (files : Files) (lost : Option (List ℕ)) (role : Role) (word : List ℕ) (most : ℕ) (next : Fetched → Work) (bytes text : List ℕ) → files word ≡ Some bytes → IsReadFault (next (handed most bytes)) files lost text → IsReadFault (Fetch role word most next) files lost text

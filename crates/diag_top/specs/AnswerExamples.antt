@@ -11,6 +11,8 @@ use Rattle.uvl_lex.specs.Examples.{computing as text_computing}
 use Rattle.uvl_reader.specs.ModelReading.{model_of}
 use Rattle.diag_top.specs.Answer.{answer}
 use Rattle.diag_top.specs.Refusals.{words_refused}
+use Rattle.diag_top.specs.Unindented.{unindented}
+use Rattle.model_gen.specs.Texts.{tabs_of}
 use Rattle.report.specs.Lines.{line}
 
 -- a model m and a configuration c
@@ -45,3 +47,17 @@ pub config_refused : answer words (two_files root (line [] ++ line (codes "S")))
     ≡ Some (record { status = status.BadConfig; text = line (codes "configuration refused line 2 Unknown") })
 unfolding digits model_of configuration standing after_lines after_line requirement formula_computing text_computing
 config_refused = refl
+
+-- generated texts need no file
+pub generated_config : answer (codes "generate" ∷ codes "1" ∷ codes "4" ∷ codes "config" ∷ []) (λ name. None)
+    ≡ Some (record { status = status.Generated; text = line (codes "F3") })
+unfolding digits tabs_of
+generated_config = refl
+
+-- lines that begin with a blank are left out, also the last one without an end
+pub unindented_lines : unindented (line (codes "a") ++ line (codes " b") ++ line [] ++ line (codes "c d") ++ codes "  e")
+    ≡ line (codes "a") ++ line [] ++ line (codes "c d")
+unindented_lines = refl
+
+pub unindented_end : unindented (codes " a") ≡ []
+unindented_end = refl

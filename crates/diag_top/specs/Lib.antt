@@ -1,5 +1,6 @@
 pub mod Work
 pub mod Refusals
+pub mod Unindented
 pub mod Answer
 pub mod Run
 pub mod Laws

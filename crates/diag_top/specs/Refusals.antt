@@ -2,6 +2,12 @@
 use Rattle.std.specs.Prelude.{ℕ, List, ◌++◌, codes}
 use Rattle.std.specs.Fmt.{decimal}
 use Rattle.command_line.specs.declared.status.Status.TheVariants as status
+use Rattle.certificate.specs.declared.judgement.Judgement.{Judgement}
+use Rattle.certificate.specs.declared.judgement.Judgement.TheVariants as judgement
+use Rattle.certificate.specs.declared.judgement.Shown.{Shown}
+use Rattle.certificate.specs.declared.judgement.Shown.TheVariants as shown
+use Rattle.certificate.specs.declared.judgement.Why.{Why}
+use Rattle.certificate.specs.declared.judgement.Why.TheVariants as why
 use Rattle.config_reader.specs.declared.error.ConfigError.{ConfigError}
 use Rattle.config_reader.specs.declared.error.ConfigError.TheVariants as config
 use Rattle.config_reader.specs.declared.error.Reason.{Reason as ConfigReason}
@@ -69,3 +75,25 @@ config_refused config.Memory = config_too_long
 abbrev pub too_large : ℕ → Reply
 too_large needed =
     record { status = status.TooLarge; text = line (codes "problem refused variables " ++ decimal needed ++ codes " limit 1000000") }
+
+-- ---- a certificate
+
+abbrev pub why_word : Why → List ℕ
+why_word why.NoCertificate = codes "NoCertificate"
+why_word why.BadLine = codes "BadLine"
+why_word why.NotProduct = codes "NotProduct"
+why_word why.NotConsequence = codes "NotConsequence"
+why_word why.NoEnd = codes "NoEnd"
+
+abbrev pub shown_word : Shown → List ℕ
+shown_word shown.Consistent = codes "consistent"
+shown_word shown.Background = codes "background"
+shown_word (shown.Explained kept conflict) = codes "explained"
+
+abbrev pub certificate_too_long : Reply
+certificate_too_long = record { status = status.Rejected; text = line (codes "rejected too long") }
+
+abbrev pub judgement_reply : Judgement → Reply
+judgement_reply (judgement.Yes shows) = record { status = status.Verified; text = line (codes "verified " ++ shown_word shows) }
+judgement_reply (judgement.No number reason) =
+    record { status = status.Rejected; text = line (codes "rejected line " ++ decimal number ++ codes " " ++ why_word reason) }

@@ -5,12 +5,13 @@ use Rattle.command_line.specs.declared.status.Status.TheVariants as status
 use Rattle.diag_base.specs.Faults.{Rises}
 use Rattle.diag_base.specs.Shelf.{Files}
 use Rattle.report.specs.Lines.{line}
-use Rattle.diag_top.specs.Work.{Reply, Role, Model, Config, Work, replied, ComesTo}
+use Rattle.diag_top.specs.Work.{Role, Model, Config, Certificate, Work, replied, ComesTo}
 
 -- what is written where a file could not be fetched
 abbrev pub fault_text : Role → List ℕ
 fault_text Model = line (codes "read failed model")
 fault_text Config = line (codes "read failed configuration")
+fault_text Certificate = line (codes "read failed certificate")
 
 -- a fetch failed that the work comes to, and the text says of which file
 pub record IsReadFault (work : Work) (files : Files) (lost : Option (List ℕ)) (text : List ℕ) : Type 0 where

@@ -16,6 +16,7 @@ pub record Reply : Type 0 where
 pub data Role : Type 0 where
   Model : Role
   Config : Role
+  Certificate : Role
 
 pub data Work : Type 0 where
   Done : (reply : Reply) → Work

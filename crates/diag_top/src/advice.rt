@@ -3,14 +3,18 @@ ghost use Rattle.std.specs.Prelude.{◌≡◌, ◌≤◌, IfOk, IfSome, None, le
 ghost use Rattle.command_line.specs.Words.{AreAllowed};
 ghost use Rattle.config_reader.specs.Laws.{IsStated};
 ghost use Rattle.clause_form.specs.ClauseForm.{needed};
-ghost use Rattle.diag_top.specs.Answer.{advice, checks_of, reported, second_of, status_of};
+ghost use Rattle.certificate.specs.Writing.{IsOver};
+ghost use Rattle.diag_top.specs.Answer.{advice, certificate, counted, reported, second_of, status_of};
+ghost use Rattle.report.specs.inside.Counts.{counted as told};
 ghost use Rattle.diag_top.specs.inside.Jobs.{IsDone, job_of, set};
 
 use crate::refusal::too_large;
 use crate::reply::Reply;
+use certificate::{write_certificate, written_is_accepted};
 use clause_form::{BuildError, problem_of};
 use command_line::Status;
 use config_reader::Config;
+use diag_base::Bytes;
 use diag_workers::{Options, run_job_alone};
 use feature_tree::Model;
 use report::{Counts, report_of};
@@ -21,12 +25,15 @@ use std::alloc::{AllocError, Global};
 const ENTRIES: u32 = 4_096;
 
 /// How a job is done: each check may learn `allowance` clauses in its first attempt, and `rungs` more attempts may follow; the
-/// minimal diagnoses up to the size `list` are listed, if it is there.
+/// minimal diagnoses up to the size `list` are listed, if it is there; so many answers are guessed `ahead`; and where `certify` says
+/// so a certificate follows the report.
 #[derive(Clone, Copy, Debug)]
 pub struct Limits {
     pub allowance: u64,
     pub rungs: u8,
     pub list: Option<u32>,
+    pub ahead: u8,
+    pub certify: bool,
 }
 
 /// The advice for a configuration of a model: the report, or that the problem would be too large.
@@ -40,6 +47,7 @@ pub fn advice(
     requires allowed { AreAllowed (set limits) }
     ensures { IfOk result (λ reply. reply ≡ advice model.now config.now (set limits)) }
 {
+    written_is_accepted();
     let first = match make_job(alloc, model, config, limits, limits.list)? {
         Job::Done(finished) => finished,
         Job::TooLarge(needed) => return too_large(alloc, needed),
@@ -48,7 +56,7 @@ pub fn advice(
     reported(alloc, model, config, limits, &first, second.as_ref())
 }
 
-/// The reply with the report on the jobs.
+/// The reply with the report on the jobs, and the certificate of the first where it is asked for.
 fn reported(
     alloc: Global,
     model: &Model,
@@ -57,16 +65,15 @@ fn reported(
     first: &Finished,
     second: Option<&Finished>,
 ) -> Result<Reply, AllocError>
-    requires { length config.now.musts ≤ 4096 }
+    requires stated { IsStated (length model.now.features) config.now }
+    requires allowed { AreAllowed (set limits) }
+    requires fits { needed model.now config.now ≤ 1000000 }
+    requires over { IsOver (length config.now.requirements) first.now.outcome }
     ensures { IfOk result (λ reply. reply ≡ reported model.now config.now (set limits) (job_of first.now) (option_map (λ job. job_of job.now) second.entry)) }
 {
-    let counts = Counts {
-        checks: checks_of(first, second),
-        predicted: 0,
-        wasted: 0,
-    };
+    let counts = counted(first, second);
     let found = second.map(|job| &job.outcome);
-    let text = report_of(
+    let mut text = report_of(
         alloc,
         model,
         config,
@@ -75,20 +82,61 @@ fn reported(
         found,
         counts,
     )?;
+    let certificate = certificate(alloc, model, config, limits, &first.outcome)?;
+    text.extend_from_slice(certificate.as_slice())?;
     Ok(Reply {
         status: status_of(&first.outcome),
         text,
     })
 }
 
-/// The checks of both jobs.
-fn checks_of(first: &Finished, second: Option<&Finished>) -> u128
-    ensures { result ≡ checks_of (job_of first.now) (option_map (λ job. job_of job.now) second.entry) }
+/// The certificate of what the first job found out, where it is asked for.
+fn certificate(
+    alloc: Global,
+    model: &Model,
+    config: &Config,
+    limits: Limits,
+    outcome: &Outcome,
+) -> Result<Bytes, AllocError>
+    requires stated { IsStated (length model.now.features) config.now }
+    requires allowed { AreAllowed (set limits) }
+    requires fits { needed model.now config.now ≤ 1000000 }
+    requires over { IsOver (length config.now.requirements) outcome.now }
+    ensures { IfOk result (λ text. text ≡ certificate model.now config.now (set limits) outcome.now) }
+{
+    if !limits.certify {
+        return Ok(Bytes::new(alloc));
+    }
+    match problem_of(alloc, model, config, limits.allowance, limits.rungs) {
+        Err(_) => Err(AllocError),
+        Ok(problem) => write_certificate(alloc, model, config, &problem, outcome),
+    }
+}
+
+/// What is counted of both jobs.
+fn counted(first: &Finished, second: Option<&Finished>) -> Counts
+    ensures { told result ≡ counted (job_of first.now) (option_map (λ job. job_of job.now) second.entry) }
 {
     match second {
-        None => u128::from(first.used.len()),
-        Some(second) => u128::from(first.used.len()) + u128::from(second.used.len()),
+        None => Counts {
+            checks: u128::from(first.used.len()),
+            predicted: u128::from(first.posted.len() as u64),
+            wasted: u128::from(wasted_in(first)),
+        },
+        Some(second) => Counts {
+            checks: u128::from(first.used.len()) + u128::from(second.used.len()),
+            predicted: u128::from(first.posted.len() as u64)
+                + u128::from(second.posted.len() as u64),
+            wasted: u128::from(wasted_in(first)) + u128::from(wasted_in(second)),
+        },
     }
+}
+
+/// How many of the job's postings were in vain.
+fn wasted_in(job: &Finished) -> u64
+    ensures { result ≡ job.now.wasted }
+{
+    job.wasted
 }
 
 /// The status of an outcome.
@@ -126,7 +174,7 @@ fn make_job(
 {
     let options = Options {
         workers: 0,
-        ahead: 0,
+        ahead: limits.ahead,
         entries: ENTRIES,
     };
     match problem_of(alloc, model, config, limits.allowance, limits.rungs) {

@@ -4,14 +4,16 @@
 #![tactic(auto)]
 
 mod advice;
-mod diagnose;
+mod files;
+mod generated;
 mod laws;
 mod refusal;
 mod reply;
 mod run;
+mod verification;
 mod write;
 
-pub use command_line::{Command, Status, read_words};
+pub use command_line::{Command, Status, What, read_words};
 pub use laws::{advice_is_right, answers_are_no_faults};
 pub use run::run_alone;
 

@@ -1,7 +1,7 @@
 //! The top call: the work is done, and its text is written.
 ghost use Rattle.std.specs.Prelude.{◌≡◌, ◌≢◌, ◌↔◌, ℕ, ◌≤◌, ◌++◌, List, map, IfOk, IfSome, IsSome, Some, None};
 ghost use Rattle.std.specs.String.{string_bytes};
-ghost use Rattle.command_line.specs.Words.{request_of};
+ghost use Rattle.command_line.specs.Words.{Generates, request_of};
 ghost use Rattle.command_line.specs.declared.status.Status.TheVariants.{BadWords, Generated, Memory, ReadFault, WriteFault};
 ghost use Rattle.diag_base.specs.Faults.{Rises};
 ghost use Rattle.diag_base.specs.Shelf.{Files};
@@ -10,7 +10,8 @@ ghost use Rattle.diag_top.specs.Run.{Counts, HasNoFault, IsComplete, IsRun};
 ghost use Rattle.diag_top.specs.inside.Follows.{Follows};
 
 use crate::advice::Limits;
-use crate::diagnose::diagnose;
+use crate::files::{Task, with_both};
+use crate::generated::generated;
 use crate::reply::Reply;
 use crate::write::put_whole;
 use command_line::{Command, Status, read_words};
@@ -39,7 +40,7 @@ pub fn run_alone<F: Shelf, K: Sink>(
 
     // Over any shelf and sink.
     ensures words { IfSome result (λ status. status ≢ Memory → status ≢ WriteFault → (status ≡ BadWords) ↔ (request_of (map string_bytes words.now) ≡ None)) }
-    ensures generated { IfSome result (λ status. status ≢ Generated) }
+    ensures generated { IfSome result (λ status. status ≢ Memory → status ≢ WriteFault → (status ≡ Generated) ↔ Generates (request_of (map string_bytes words.now))) }
     ensures memory { IfSome result (λ status. status ≡ Memory → K.written sink.new ≡ K.written sink.old) }
     ensures read_fault { IfSome result (λ status. status ≡ ReadFault → Rises (F.faults shelf.old) (F.faults shelf.new)) }
     ensures write_fault { IfSome result (λ status. status ≡ WriteFault → Rises (K.faults sink.old) (K.faults sink.new)) }
@@ -61,7 +62,8 @@ fn reply_to<F: Shelf>(alloc: Global, words: &[String], shelf: &mut F) -> Result<
     ensures told { IfOk result (λ reply. IfSome (F.files shelf.old) (λ files. Follows files (F.lost shelf.new) (work_for (map string_bytes words.now)) reply)) }
     ensures words { IfOk result (λ reply. (reply.status ≡ BadWords) ↔ (request_of (map string_bytes words.now) ≡ None)) }
     ensures read_fault { IfOk result (λ reply. reply.status ≡ ReadFault → Rises (F.faults shelf.old) (F.faults shelf.new)) }
-    ensures others { IfOk result (λ reply. (reply.status ≢ Memory) × (reply.status ≢ WriteFault) × (reply.status ≢ Generated)) }
+    ensures generated { IfOk result (λ reply. (reply.status ≡ Generated) ↔ Generates (request_of (map string_bytes words.now))) }
+    ensures others { IfOk result (λ reply. (reply.status ≢ Memory) × (reply.status ≢ WriteFault)) }
     ensures never_falls { F.faults shelf.old ≤ F.faults shelf.new }
 {
     match read_words(words) {
@@ -70,17 +72,29 @@ fn reply_to<F: Shelf>(alloc: Global, words: &[String], shelf: &mut F) -> Result<
             Command::Diagnose {
                 model,
                 config,
+                ahead,
                 allowance,
                 rungs,
                 list,
+                certify,
             },
         ) => {
             let limits = Limits {
                 allowance,
                 rungs,
                 list,
+                ahead,
+                certify,
             };
-            diagnose(alloc, shelf, model, config, limits)
+            with_both(alloc, shelf, model, config, Task::Advise(limits))
         }
+        Some(
+            Command::Verify {
+                model,
+                config,
+                certificate,
+            },
+        ) => with_both(alloc, shelf, model, config, Task::Verify(certificate)),
+        Some(Command::Generate { seed, size, what }) => generated(alloc, seed, size, what),
     }
 }

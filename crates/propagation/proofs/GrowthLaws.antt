@@ -1,21 +1,18 @@
 -- What stays right when literals are assumed or clauses learned.
-use Rattle.std.proofs.Common.{◌≡◌, ◌∙◌, refl, sym, ap, subst, ⊎_elim, ℕ, ◌<◌, ◌≤◌, Bool, false, List, [], ◌∷◌, ◌++◌, map, length, Option, Some, None, arith}
+use Rattle.std.proofs.Common.{◌≡◌, ◌∙◌, refl, sym, ap, subst, ⊎_elim, ℕ, Bool, List, [], ◌∷◌, ◌++◌, map}
 use Rattle.std.specs.Prelude.{Contains}
-use Rattle.std.proofs.Math.ListN.{get_or-eq_default}
 use Rattle.std.proofs.lemmas.List.{map-append}
 use Rattle.std.proofs.lemmas.List.Elements.{Contains-append_left, Contains-append_right, Contains-append_cases}
 use Rattle.req_keys.specs.Key.{PositionSet}
 use Rattle.clauses.specs.declared.literal.Lit.{Lit}
 use Rattle.clauses.specs.Clause.{literal_with, unit_of}
-use Rattle.clauses.specs.Closure.{clash, AreAmong}
-use Rattle.clauses.specs.Problem.{ClauseProblem, IsBelow, clauses_with, roots_at}
+use Rattle.clauses.specs.Closure.{AreAmong}
+use Rattle.clauses.specs.Problem.{ClauseProblem, clauses_with, roots_at}
 use Rattle.clauses.specs.Search.{Standing, all_with, under}
 use Rattle.lists.proofs.Members.{from_map, to_map}
-use Rattle.clauses.proofs.LeastLaws.{closure-among}
-use Rattle.propagation.specs.Propagation.{Propagation, all_of, propagated, as_searched, value_of}
-use Rattle.propagation.specs.inside.UpToDate.{IsUpToDate}
-use Rattle.propagation.specs.inside.Values.{value_at, IsSound, Shows, IsPart}
-use Rattle.propagation.proofs.ValueLaws.{in_closure, part-among}
+use Rattle.propagation.specs.Propagation.{all_of, propagated, as_searched}
+use Rattle.propagation.specs.inside.Values.{IsPart}
+use Rattle.propagation.proofs.ValueLaws.{part-among}
 
 -- ---- what there is more of
 
@@ -46,29 +43,6 @@ module _ (clauses learned : List (List Lit)) (assumed : List Lit) where
       (Contains-append_cases clauses learned clause front)))
       (λ (back : Contains (map unit_of assumed) clause). Contains-append_right after (map unit_of assumed) clause back)
       (Contains-append_cases (clauses ++ learned) (map unit_of assumed) clause m))
-
--- ---- values that are right stay in the closure
-
-none≢some : (b : Bool) → None ≡ Some b → ⊥
-none≢some b e = cc
-
-pub valued-below : (values : List (Option Bool)) (var : ℕ) (b : Bool) → value_at values var ≡ Some b → var < length values
-valued-below values var b e =
-    let past : length values ≤ var → ⊥ = λ g. none≢some b (sym (get_or-eq_default values None g) ∙ e) in
-    omega arith
-
-pub shown-sound : (a b : List (List Lit)) → AreAmong a b → clash a ≡ false → (values : List (Option Bool)) → Shows a values → IsSound b values
-shown-sound a b within no_clash values shows = λ l t.
-    closure-among a b within l (in_closure a l.var l.positive no_clash (sym (shows l.var (valued-below values l.var l.positive t)) ∙ t))
-
--- the kept value of a variable, where nothing clashes
-pub kept-value : (at now : Propagation) (values : List (Option Bool)) (clashing : Bool) (room : ℕ) → IsUpToDate at values clashing room → at ≡ now → clash (propagated now) ≡ false
-    → (l : Lit) → IsBelow now.problem.variables l → (kept : Option Bool) → kept ≡ value_at values l.var → kept ≡ value_of (propagated now) l.var
-kept-value at now values clashing room is same no_clash l below kept e =
-    let here : clashing ≡ false = is.answered ∙ ap (λ (p : Propagation). clash (propagated p)) same ∙ no_clash in
-    let variables : at.problem.variables ≡ now.problem.variables = ap (λ (p : Propagation). p.problem.variables) same in
-    let size = is.sized in
-    e ∙ is.shown here l.var (omega arith) ∙ ap (λ (p : Propagation). value_of (propagated p) l.var) same
 
 -- ---- the order of a search
 

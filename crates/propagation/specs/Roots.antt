@@ -1,5 +1,5 @@
 -- The roots of a key as assumed literals.
-use Rattle.std.specs.Prelude.{◌≡◌, ◌≤◌, IsFalse, IsTrue, [], length, Option, Some, None}
+use Rattle.std.specs.Prelude.{◌≡◌, ◌≤◌, Bool, false, true, IsFalse, IsTrue, [], length, Option, Some, None}
 use Rattle.req_keys.specs.Key.{PositionSet}
 use Rattle.clauses.specs.Closure.{clash}
 use Rattle.clauses.specs.Problem.{ClauseProblem, clauses_with, roots_at}
@@ -16,3 +16,8 @@ pub record AreRooted (problem : ClauseProblem) (key : PositionSet) (at : Propaga
 abbrev pub IsRooted : ClauseProblem → PositionSet → Option Propagation → Type 0
 IsRooted problem key None = IsTrue (clash (clauses_with problem key))
 IsRooted problem key (Some at) = AreRooted problem key at
+
+-- the roots of the key are assumed, unless they clash with the clauses; then nothing is
+abbrev pub AreAsked : ClauseProblem → PositionSet → Propagation → Bool → Type 0
+AreAsked problem key at false = IsTrue (clash (clauses_with problem key)) × (at ≡ record { problem = problem; assumed = []; learned = [] })
+AreAsked problem key at true = AreRooted problem key at

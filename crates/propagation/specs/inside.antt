@@ -1,3 +1,10 @@
 -- What serves private functions and the invariant of a propagator.
+pub mod Building
+pub mod Levels
+pub mod Places
+pub mod RootTrials
+pub mod Trails
 pub mod UpToDate
 pub mod Values
+pub mod Visits
+pub mod Watching

@@ -1,16 +1,20 @@
-//! The propagator: scans over all clauses at each change.
+//! The propagator: watches over a kept trail.
 ghost use Rattle.std.specs.Prelude.{◌≡◌, ◌+◌, ◌<◌, ◌≤◌, [], ◌∷◌, ◌++◌, All, Contains, IfOk, IsFalse, IsTrue, OnErr, OnOk, length, not, take, vec_capacity, ℕ};
 ghost use Rattle.clauses.specs.Clause.{unit_of};
 ghost use Rattle.clauses.specs.Closure.{clash, closure};
-ghost use Rattle.clauses.specs.Problem.{IsBelow};
+ghost use Rattle.clauses.specs.Problem.{IsBelow, IsProblem};
 ghost use Rattle.propagation.specs.Propagation.{propagated, value_of};
 ghost use Rattle.propagation.specs.Room.{AreDistinctBehind, HasRoom, IsMadeTrue};
 
-use crate::scan::settle;
-use crate::values::Values;
+use crate::building::begin;
+use crate::levels::{bring_all, learn_in};
+use crate::state::{State, brought};
+use crate::trail::Trail;
+use crate::watches::Watches;
 use clauses::{Clause, Clauses, Lit, Problem};
 use std::alloc::{AllocError, Global};
 use std::marker::Model;
+use std::mem;
 
 /// How many literals may be assumed beyond one for each variable: one for each position of a key.
 const ROOM_FOR_POSITIONS: usize = 4096;
@@ -25,21 +29,30 @@ pub struct Propagator<'a> {
     /// In the order in which they were learned.
     learned: Clauses,
     /// Whether the clauses with both clash.
-    clashing: bool,
-    /// Where nothing clashes, what the closure says of each variable, and else any values.
-    values: Values,
+    state: State,
+    /// The closure, in the order in which its literals came.
+    trail: Trail,
+    /// How long the trail was before each assumed literal that was brought in.
+    marks: Vec<usize>,
+    /// How long it is with nothing assumed or learned.
+    base: usize,
+    /// The watches of the problem's clauses.
+    watches: Watches,
+    /// Those of the learned ones.
+    learned_watches: Watches,
 }
 
 impl<'a> Model for Propagator<'a> {
     ghost use Rattle.std.specs.Prelude.{vec_capacity};
     ghost use Rattle.propagation.specs.Propagation.{Propagation};
-    ghost use Rattle.propagation.specs.inside.UpToDate.{IsUpToDate};
 
     ghost Value = { Propagation };
 
+    ghost use Rattle.propagation.specs.inside.UpToDate.{IsUpToDate};
+
     ghost view = { λ a. record { problem = a.problem.now; assumed = a.assumed.items; learned = a.learned } };
 
-    ghost invariant = { λ a. IsUpToDate (record { problem = a.problem.now; assumed = a.assumed.items; learned = a.learned }) a.values a.clashing (vec_capacity a.assumed) };
+    ghost invariant = { λ a. IsUpToDate (record { problem = a.problem.now; assumed = a.assumed.items; learned = a.learned }) a.trail a.watches a.learned_watches a.marks.items a.base a.state (vec_capacity a.assumed) (vec_capacity a.marks) };
 }
 
 impl<'a> Propagator<'a> {
@@ -51,15 +64,29 @@ impl<'a> Propagator<'a> {
     {
         let variables = problem.variables as usize;
         let assumed = Vec::with_capacity(alloc, variables + ROOM_FOR_POSITIONS)?;
+        let marks = Vec::with_capacity(alloc, variables + ROOM_FOR_POSITIONS)?;
         let learned = Clauses::new(alloc);
-        let mut values = Values::new(alloc, variables)?;
-        let clashing = settle(problem, &learned, assumed.as_slice(), &mut values);
+        let mut trail = Trail::new(alloc, variables)?;
+        let mut watches = Watches::new(alloc, variables)?;
+        let mut learned_watches = Watches::new(alloc, variables)?;
+        let state = begin(
+            problem,
+            &learned,
+            &mut watches,
+            &mut learned_watches,
+            &mut trail,
+        )?;
+        let base = trail.len();
         Ok(Propagator {
             problem,
             assumed,
             learned,
-            clashing,
-            values,
+            state,
+            trail,
+            marks,
+            base,
+            watches,
+            learned_watches,
         })
     }
 
@@ -72,13 +99,18 @@ impl<'a> Propagator<'a> {
         ensures no_clash { result ≡ not (clash (propagated self.new)) }
     {
         self.assumed.push_reserved(lit);
-        self.clashing = settle(
+        let fits = bring_all(
             self.problem,
             &self.learned,
+            &mut self.watches,
+            &mut self.learned_watches,
+            &mut self.trail,
+            &mut self.marks,
             self.assumed.as_slice(),
-            &mut self.values,
+            self.base,
         );
-        !self.clashing
+        self.state = brought(fits);
+        fits
     }
 
     /// Sees to it that the literal is true, and answers whether nothing clashes. It is assumed unless its variable has a
@@ -93,7 +125,7 @@ impl<'a> Propagator<'a> {
         ensures no_clash { IsTrue result → IsFalse (clash (propagated self.new)) }
         ensures clash { IsFalse result → IsTrue (clash (propagated self.old ++ unit_of literal ∷ [])) }
     {
-        match self.values.get(literal.var) {
+        match self.trail.value(literal.var) {
             Some(value) => value == literal.positive,
             None => self.assume(literal),
         }
@@ -104,14 +136,40 @@ impl<'a> Propagator<'a> {
         requires { count ≤ length self.old.assumed }
         ensures { self.new ≡ record self.old { assumed = take count self.old.assumed } }
     {
-        self.assumed.truncate(count as usize);
-        self.values.clear();
-        self.clashing = settle(
-            self.problem,
-            &self.learned,
-            self.assumed.as_slice(),
-            &mut self.values,
-        );
+        let count = count as usize;
+        if count >= self.marks.len() {
+            self.assumed.truncate(count);
+            return;
+        }
+        self.trail.cut(self.marks[count]);
+        self.marks.truncate(count);
+        self.assumed.truncate(count);
+        self.state = State::Rests;
+    }
+
+    /// Nothing is assumed or learned any more. What was reserved stays so.
+    pub fn forget(&mut self)
+        ensures { self.new ≡ record self.old { assumed = []; learned = [] } }
+    {
+        let _learned = self.take_learned();
+    }
+
+    /// Hands out the learned clauses, in their order. Nothing is assumed or learned any more.
+    pub fn take_learned(&mut self) -> Clauses
+        ensures learned { result ≡ self.old.learned }
+        ensures forgotten { self.new ≡ record self.old { assumed = []; learned = [] } }
+    {
+        let none = Clauses::new(*self.assumed.allocator());
+        let learned = mem::replace(&mut self.learned, none);
+        self.assumed.clear();
+        self.marks.clear();
+        self.learned_watches.clear();
+        if self.state.is_dead() {
+            return learned;
+        }
+        self.trail.cut(self.base);
+        self.state = State::Rests;
+        learned
     }
 
     /// Appends the clause to the learned ones, and answers whether nothing clashes.
@@ -121,24 +179,29 @@ impl<'a> Propagator<'a> {
         ensures no_clash { IfOk result (λ no_clash. no_clash ≡ not (clash (propagated self.new))) }
         ensures err { OnErr result (self.new ≡ self.old) }
     {
-        let clause = Clause::from_slice(*self.assumed.allocator(), clause)?;
-        self.learned.push(clause)?;
-        if !self.clashing {
-            self.clashing = settle(
-                self.problem,
-                &self.learned,
-                self.assumed.as_slice(),
-                &mut self.values,
-            );
-        }
-        Ok(!self.clashing)
+        let copy = Clause::from_slice(*self.assumed.allocator(), clause)?;
+        self.learned_watches.reserve()?;
+        self.learned.push(copy)?;
+        self.state = learn_in(
+            self.problem,
+            &self.learned,
+            &mut self.watches,
+            &mut self.learned_watches,
+            &mut self.trail,
+            &mut self.marks,
+            self.assumed.as_slice(),
+            self.base,
+            clause,
+            self.state,
+        );
+        Ok(self.state.is_rest())
     }
 
     /// Whether the clauses, the learned ones and the assumed literals clash.
     pub fn clashes(&self) -> bool
         ensures { result ≡ clash (propagated self.now) }
     {
-        self.clashing
+        !self.state.is_rest()
     }
 
     /// The value that the closure gives the variable, if any.
@@ -147,7 +210,15 @@ impl<'a> Propagator<'a> {
         requires variable { var < self.now.problem.variables }
         ensures { result ≡ value_of (propagated self.now) var }
     {
-        self.values.get(var)
+        self.trail.value(var)
+    }
+
+    /// What it is about.
+    pub fn problem(&self) -> &'a Problem
+        ensures problem { result.now ≡ self.now.problem }
+        ensures lawful { IsProblem self.now.problem }
+    {
+        self.problem
     }
 
     /// The learned clauses so far, in their order.

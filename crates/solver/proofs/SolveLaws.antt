@@ -21,7 +21,7 @@ use Rattle.solver.specs.declared.answer.Answer.{Answer}
 use Rattle.solver.specs.declared.answer.Answer.TheVariants as answer
 use Rattle.solver.specs.Answers.{meaning, EndsWithLearned, IsRight}
 use Rattle.solver.specs.declared.search.Ending.{Ending}
-use Rattle.solver.specs.inside.Searching.{Searching, standing, turn_of, IsShown, IsTurn, ended, Begins}
+use Rattle.solver.specs.inside.Searching.{Searching, standing, turn_of, IsShown, IsTurn, ended, HasBegun}
 use Rattle.solver.specs.Stopping.{Rises}
 
 -- what stands in an attempt: the search comes to it
@@ -44,7 +44,7 @@ module _ (problem : ClauseProblem) (key : PositionSet) (number : ℕ) where
   abbrev allowance : ℕ
   allowance = allowance_of problem number
 
-  pub going-start : (at : Searching) → Begins problem key (first_of number) allowance (Some at) → IsGoing problem key number at
+  pub going-start : (at : Searching) → HasBegun problem key (first_of number) allowance at true → IsGoing problem key number at
   going-start at e = record {
     problem_is = ap (λ (s : Searching). s.trial.problem) e;
     fixed_is = ap (λ (s : Searching). s.trial.fixed) e;

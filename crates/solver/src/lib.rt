@@ -11,7 +11,7 @@ mod stop;
 mod trial;
 
 pub use answer::{Answer, Assignment, SolveError};
-pub use solving::solve;
+pub use solving::{Searcher, solve};
 pub use stop::{NoStop, Stop};
 
 #[cfg(test)]

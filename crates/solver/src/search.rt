@@ -3,14 +3,15 @@ ghost use Rattle.std.specs.Prelude.{◌≡◌, ◌≢◌, ◌==◌, ◌<◌, ◌
 ghost use Rattle.lists.specs.Distinct.{IsDistinct};
 ghost use Rattle.pref_sets.specs.Preferred.{IsWithin};
 ghost use Rattle.clauses.specs.Closure.{clash, closure};
+ghost use Rattle.clauses.specs.Problem.{IsProblem};
 ghost use Rattle.clauses.specs.Search.{cut_after, open_variables, some_without, values_of};
 ghost use Rattle.solver.specs.Answers.{meaning};
-ghost use Rattle.solver.specs.inside.Searching.{AreSettled, AreShown, Begins, IsShown, IsTurn, all_under, ended};
+ghost use Rattle.solver.specs.inside.Searching.{AreSettled, AreShown, HasBegun, IsShown, IsTurn, all_under, ended};
 ghost use Rattle.solver.specs.inside.Trials.{with_tried};
 
 use crate::answer::{Answer, Assignment};
 use crate::trial::Trial;
-use clauses::{Clause, Lit, Problem};
+use clauses::{Clause, Derivation, Lit, Problem};
 use pref_sets::trim;
 use req_keys::Key;
 use std::alloc::{AllocError, Global};
@@ -48,26 +49,41 @@ impl<'a> Model for Search<'a> {
 }
 
 impl<'a> Search<'a> {
-    /// Nothing is learned or decided. None where the roots of the key clash with the clauses.
-    pub fn new(
-        alloc: Global,
-        problem: &'a Problem,
-        key: &Key,
-        first: bool,
-        allowance: u64,
-    ) -> Result<Option<Search<'a>>, AllocError>
-        requires { key.now.n ≡ length problem.now.roots }
-        ensures { IfOk result (Begins problem.now key.now first allowance) }
+    /// Nothing is learned or decided, and nothing may be learned.
+    pub fn new(alloc: Global, problem: &'a Problem) -> Result<Search<'a>, AllocError>
+        ensures { IfOk result (λ made. made.trial.problem ≡ problem.now) }
     {
-        match Trial::new(alloc, problem, key, first)? {
-            None => Ok(None),
-            Some(trial) => Ok(Some(Search {
-                trial,
-                decisions: Vec::new(alloc),
-                allowance,
-                settled: 0,
-            })),
-        }
+        Ok(Search {
+            trial: Trial::new(alloc, problem)?,
+            decisions: Vec::new(alloc),
+            allowance: 0,
+            settled: 0,
+        })
+    }
+
+    /// Begins anew: nothing is learned or decided. False where the roots of the key clash with the clauses.
+    pub fn begin(&mut self, key: &Key, first: bool, allowance: u64) -> Result<bool, AllocError>
+        requires { key.now.n ≡ length self.old.trial.problem.roots }
+        ensures begun { IfOk result (HasBegun self.old.trial.problem key.now first allowance self.new) }
+        ensures problem { self.new.trial.problem ≡ self.old.trial.problem }
+    {
+        self.decisions.clear();
+        self.allowance = allowance;
+        self.settled = 0;
+        self.trial.begin(key, first)
+    }
+
+    /// What is searched.
+    pub fn problem(&self) -> &'a Problem
+        ensures problem { result.now ≡ self.now.trial.problem }
+        ensures lawful { IsProblem self.now.trial.problem }
+    {
+        self.trial.problem()
+    }
+
+    /// Where its memory comes from.
+    pub fn allocator(&self) -> Global {
+        *self.decisions.allocator()
     }
 
     /// Whether the turn that is due is one with a clash.
@@ -98,7 +114,8 @@ impl<'a> Search<'a> {
     pub fn turn_at_rest(&mut self) -> Result<Option<Ending>, AllocError>
         requires shown { IsShown self.old }
         requires no_clash { IsFalse (clash (all_under self.old)) }
-        ensures { IfOk result (IsTurn self.old self.new) }
+        ensures turn { IfOk result (IsTurn self.old self.new) }
+        ensures problem { self.new.trial.problem ≡ self.old.trial.problem }
     {
         match self.lowest_open() {
             None => Ok(Some(Ending::Sat)),
@@ -119,6 +136,7 @@ impl<'a> Search<'a> {
         ensures trial { OnOk result (self.new.trial ≡ record self.old.trial { tried = self.old.decisions ++ variable ∷ [] }) }
         ensures decisions { OnOk result (self.new.decisions ≡ self.old.decisions ++ variable ∷ []) }
         ensures allowance { self.new.allowance ≡ self.old.allowance }
+        ensures problem { self.new.trial.problem ≡ self.old.trial.problem }
     {
         self.decisions.push(variable)?;
         self.trial.decide(variable);
@@ -137,7 +155,8 @@ impl<'a> Search<'a> {
     pub fn turn_at_clash(&mut self, alloc: Global) -> Result<Option<Ending>, AllocError>
         requires shown { IsShown self.old }
         requires clash { IsTrue (clash (all_under self.old)) }
-        ensures { IfOk result (IsTurn self.old self.new) }
+        ensures turn { IfOk result (IsTurn self.old self.new) }
+        ensures problem { self.new.trial.problem ≡ self.old.trial.problem }
     {
         if self.decisions.is_empty() {
             return Ok(Some(Ending::Unsat));
@@ -170,22 +189,30 @@ impl<'a> Search<'a> {
         Ok(())
     }
 
-    /// The answer of a search that ended so.
-    pub fn into_answer(self, alloc: Global, ending: Ending) -> Result<Answer, AllocError>
-        requires shown { IsShown self }
-        requires no_clash { ending ≡ Ending.Sat → IsFalse (clash (all_under self)) }
-        ensures { IfOk result (λ answer. meaning answer ≡ ended self.entry ending) }
+    /// The answer of a search that ended so. What was learned goes into it.
+    pub fn answer(&mut self, ending: Ending) -> Result<Answer, AllocError>
+        requires shown { IsShown self.old }
+        requires no_clash { ending ≡ Ending.Sat → IsFalse (clash (all_under self.old)) }
+        ensures meaning { IfOk result (λ answer. meaning answer ≡ ended self.old ending) }
+        ensures problem { self.new.trial.problem ≡ self.old.trial.problem }
     {
         match ending {
-            Ending::Sat => Ok(Answer::Sat(self.values(alloc)?)),
+            Ending::Sat => Ok(Answer::Sat(self.values(self.allocator())?)),
             Ending::Limit => Ok(Answer::Limit),
-            Ending::Unsat => {
-                let Search { trial, .. } = self;
-                let mut derivation = trial.into_learned();
-                derivation.push(Clause::new(alloc))?;
-                Ok(Answer::Unsat(derivation))
-            }
+            Ending::Unsat => Ok(Answer::Unsat(self.take_derivation()?)),
         }
+    }
+
+    /// Hands out what is learned, and the empty clause behind it.
+    fn take_derivation(&mut self) -> Result<Derivation, AllocError>
+        ensures lines { IfOk result (λ lines. lines ≡ self.old.trial.learned ++ [] ∷ []) }
+        ensures problem { self.new.trial.problem ≡ self.old.trial.problem }
+    {
+        self.settled = 0;
+        let mut lines = self.trial.take_learned();
+        let empty = Clause::new(lines.allocator());
+        lines.push(empty)?;
+        Ok(lines)
     }
 
     /// The value of each variable, at rest.

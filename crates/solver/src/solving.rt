@@ -1,5 +1,6 @@
 //! The search.
 ghost use Rattle.std.specs.Prelude.{◌≡◌, ◌≤◌, [], ◌∷◌, Some, IfOk, IsTrue, IsErrOf, length};
+ghost use Rattle.clauses.specs.Problem.{IsProblem};
 ghost use Rattle.clauses.specs.Search.{Unsat, allowance_of, attempt_of, first_of, search_of, verdict_of, verdict_on};
 ghost use Rattle.solver.specs.Answers.{IsRight, meaning};
 ghost use Rattle.solver.specs.Stopping.{Rises};
@@ -11,9 +12,50 @@ use crate::stop::Stop;
 use clauses::{Clause, Clauses, Problem};
 use req_keys::Key;
 use std::alloc::{AllocError, Global};
+use std::marker::Model;
 
 /// How many clauses an attempt may learn at most.
 const MOST_LEARNED: u64 = 1 << 40;
+
+/// A search over one problem that is asked for one key after another. What it holds is made once.
+#[derive(Drop)]
+pub struct Searcher<'a> {
+    search: Search<'a>,
+}
+
+impl<'a> Model for Searcher<'a> {
+    ghost use Rattle.clauses.specs.Problem.{ClauseProblem};
+
+    ghost Value = { ClauseProblem };
+
+    ghost view = { λ a. a.search.trial.problem };
+}
+
+impl<'a> Searcher<'a> {
+    /// A searcher over the problem.
+    pub fn new(alloc: Global, problem: &'a Problem) -> Result<Searcher<'a>, AllocError>
+        ensures { IfOk result (λ searcher. searcher ≡ problem.now) }
+    {
+        let search = Search::new(alloc, problem)?;
+        Ok(Searcher { search })
+    }
+
+    /// Searches for an assignment of the problem's clauses and the roots of the key, whatever was asked before and
+    /// however that ended. An attempt that may learn no more is followed by another, as often as the problem says. It
+    /// asks `stop` once at each clash of each attempt.
+    pub fn answer<S: Stop>(&mut self, key: &Key, stop: &mut S) -> Result<Answer, SolveError>
+        requires { key.now.n ≡ length self.old.roots }
+        ensures answer { IfOk result (λ answer. search_of self.old key.now ≡ Some (meaning answer)) }
+        ensures verdict { IfOk result (λ answer. verdict_on self.old key.now ≡ Some (verdict_of (meaning answer))) }
+        ensures right { IfOk result (IsRight self.old key.now) }
+        ensures stopped { IsErrOf result SolveError.Stopped → Rises (S.raised stop.old) (S.raised stop.new) }
+        ensures never_falls { S.raised stop.old ≤ S.raised stop.new }
+        ensures stays { S.stays stop.old stop.new }
+        ensures problem { self.new ≡ self.old }
+    {
+        search_for(&mut self.search, key, stop)
+    }
+}
 
 /// Searches for an assignment of the problem's clauses and the roots of the key. An attempt that may learn no more is
 /// followed by another, as often as the problem says. It asks `stop` once at each clash of each attempt, and keeps
@@ -32,15 +74,33 @@ pub fn solve<S: Stop>(
     ensures never_falls { S.raised stop.old ≤ S.raised stop.new }
     ensures stays { S.stays stop.old stop.new }
 {
-    let same = key.n() == problem.n();
-    prove!(same);
-    for number in 0..problem.rungs {
-        let answer = attempt(alloc, problem, key, number, stop)?;
+    let mut searcher = Searcher::new(alloc, problem)?;
+    searcher.answer(key, stop)
+}
+
+/// The answer of the first attempt that isn't Limit, or of the last.
+fn search_for<S: Stop>(
+    search: &mut Search<'_>,
+    key: &Key,
+    stop: &mut S,
+) -> Result<Answer, SolveError>
+    requires { key.now.n ≡ length search.old.trial.problem.roots }
+    ensures answer { IfOk result (λ answer. search_of search.old.trial.problem key.now ≡ Some (meaning answer)) }
+    ensures stopped { IsErrOf result SolveError.Stopped → Rises (S.raised stop.old) (S.raised stop.new) }
+    ensures never_falls { S.raised stop.old ≤ S.raised stop.new }
+    ensures stays { S.stays stop.old stop.new }
+    ensures problem { search.new.trial.problem ≡ search.old.trial.problem }
+    ensures lawful { IsProblem search.old.trial.problem }
+{
+    let problem = search.problem();
+    let rungs = problem.rungs;
+    for number in 0..rungs {
+        let answer = attempt(search, key, number, stop)?;
         if !answer.is_limit() {
             return Ok(answer);
         }
     }
-    attempt(alloc, problem, key, problem.rungs, stop)
+    attempt(search, key, rungs, stop)
 }
 
 /// The value at which the attempt with this number decides variables.
@@ -60,27 +120,29 @@ fn allowance_of(problem: &Problem, number: u8) -> u64
 
 /// The attempt with this number.
 fn attempt<S: Stop>(
-    alloc: Global,
-    problem: &Problem,
+    search: &mut Search<'_>,
     key: &Key,
     number: u8,
     stop: &mut S,
 ) -> Result<Answer, SolveError>
-    requires key { key.now.n ≡ length problem.now.roots }
-    requires few { number ≤ problem.now.rungs }
-    ensures answer { IfOk result (λ answer. attempt_of problem.now key.now number ≡ Some (meaning answer)) }
+    requires key { key.now.n ≡ length search.old.trial.problem.roots }
+    requires few { number ≤ search.old.trial.problem.rungs }
+    ensures answer { IfOk result (λ answer. attempt_of search.old.trial.problem key.now number ≡ Some (meaning answer)) }
     ensures stopped { IsErrOf result SolveError.Stopped → Rises (S.raised stop.old) (S.raised stop.new) }
     ensures never_falls { S.raised stop.old ≤ S.raised stop.new }
     ensures stays { S.stays stop.old stop.new }
+    ensures problem { search.new.trial.problem ≡ search.old.trial.problem }
 {
+    let alloc = search.allocator();
     let first = first_of(number);
-    let allowance = allowance_of(problem, number);
-    let Some(mut search) = Search::new(alloc, problem, key, first, allowance)? else {
+    let allowance = allowance_of(search.problem(), number);
+    let fits = search.begin(key, first, allowance)?;
+    if !fits {
         return refuted(alloc, stop);
-    };
+    }
     loop {
-        if let Some(ending) = turn(alloc, &mut search, stop)? {
-            return Ok(search.into_answer(alloc, ending)?);
+        if let Some(ending) = turn(alloc, search, stop)? {
+            return Ok(search.answer(ending)?);
         }
     }
 }
@@ -108,6 +170,7 @@ fn turn<S: Stop>(
 ) -> Result<Option<Ending>, SolveError>
     requires { IsShown search.old }
     ensures turn { IfOk result (IsTurn search.old search.new) }
+    ensures problem { search.new.trial.problem ≡ search.old.trial.problem }
     ensures stopped { IsErrOf result SolveError.Stopped → Rises (S.raised stop.old) (S.raised stop.new) }
     ensures never_falls { S.raised stop.old ≤ S.raised stop.new }
     ensures stays { S.stays stop.old stop.new }

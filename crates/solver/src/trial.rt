@@ -5,11 +5,11 @@ ghost use Rattle.clauses.specs.Clause.{literal_with};
 ghost use Rattle.clauses.specs.Closure.{clash, closure};
 ghost use Rattle.clauses.specs.Problem.{IsBelow, IsProblem};
 ghost use Rattle.propagation.specs.Propagation.{value_of};
-ghost use Rattle.solver.specs.inside.Trials.{Clashes, SameButTried, Starts, variables_in, with_tried};
+ghost use Rattle.solver.specs.inside.Trials.{Clashes, HasStarted, SameButTried, variables_in, with_tried};
 
 use clauses::{Clauses, Lit, Problem};
 use pref_sets::MonotoneTest;
-use propagation::{Propagator, with_roots};
+use propagation::{Propagator, assume_roots};
 use req_keys::Key;
 use std::alloc::{AllocError, Global};
 use std::marker::Model;
@@ -49,27 +49,36 @@ impl<'a> Model for Trial<'a> {
 }
 
 impl<'a> Trial<'a> {
-    /// The roots of the key are assumed and stay. None where they clash with the clauses.
-    pub fn new(
-        alloc: Global,
-        problem: &'a Problem,
-        key: &Key,
-        first: bool,
-    ) -> Result<Option<Trial<'a>>, AllocError>
-        requires { key.now.n ≡ length problem.now.roots }
-        ensures { IfOk result (Starts problem.now key.now first) }
+    /// Nothing is assumed or learned.
+    pub fn new(alloc: Global, problem: &'a Problem) -> Result<Trial<'a>, AllocError>
+        ensures problem { IfOk result (λ made. made.problem ≡ problem.now) }
+        ensures learned { IfOk result (λ made. made.learned ≡ []) }
     {
-        let same = key.n() == problem.n();
-        prove!(same);
-        match with_roots(alloc, problem, key)? {
-            None => Ok(None),
-            Some(propagator) => Ok(Some(Trial {
-                problem,
-                propagator,
-                fixed: key.len(),
-                first,
-            })),
+        let propagator = Propagator::new(alloc, problem)?;
+        let lawful = propagator.problem();
+        Ok(Trial {
+            problem: lawful,
+            propagator,
+            fixed: 0,
+            first: false,
+        })
+    }
+
+    /// Begins anew: what is learned is forgotten, and the roots of the key are assumed and stay. False where they clash
+    /// with the clauses.
+    pub fn begin(&mut self, key: &Key, first: bool) -> Result<bool, AllocError>
+        requires { key.now.n ≡ length self.old.problem.roots }
+        ensures started { IfOk result (HasStarted self.old.problem key.now first self.new) }
+        ensures problem { self.new.problem ≡ self.old.problem }
+        ensures learned { self.new.learned ≡ [] }
+    {
+        self.first = first;
+        self.fixed = 0;
+        let fits = assume_roots(&mut self.propagator, key)?;
+        if fits {
+            self.fixed = key.len();
         }
+        Ok(fits)
     }
 
     /// The problem that is searched.
@@ -169,12 +178,14 @@ impl<'a> Trial<'a> {
         self.propagator.learned()
     }
 
-    /// The learned clauses, in their order.
-    pub fn into_learned(self) -> Clauses
-        ensures { result ≡ self.entry.learned }
+    /// Hands out the learned clauses, in their order. Nothing is assumed or learned any more.
+    pub fn take_learned(&mut self) -> Clauses
+        ensures handed { result ≡ self.old.learned }
+        ensures problem { self.new.problem ≡ self.old.problem }
+        ensures learned { self.new.learned ≡ [] }
     {
-        let Trial { propagator, .. } = self;
-        propagator.into_learned()
+        self.fixed = 0;
+        self.propagator.take_learned()
     }
 }
 

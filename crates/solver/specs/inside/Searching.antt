@@ -1,5 +1,5 @@
 -- What a search knows between two turns, and what a turn comes to.
-use Rattle.std.specs.Prelude.{◌≡◌, ◌⊎◌, ◌<◌, ◌≤◌, ℕ, Bool, false, not, ◌&&◌, IsFalse, IsTrue, All, List, [], ◌∷◌, ◌++◌, length, map, Option, Some, None}
+use Rattle.std.specs.Prelude.{◌≡◌, ◌⊎◌, ◌<◌, ◌≤◌, ℕ, Bool, false, true, not, ◌&&◌, IsFalse, IsTrue, All, List, [], ◌∷◌, ◌++◌, length, map, Option, Some, None}
 use Rattle.pref_sets.specs.Preferred.{IsDistinct}
 use Rattle.req_keys.specs.Key.{PositionSet}
 use Rattle.clauses.specs.declared.literal.Lit.{Lit}
@@ -54,9 +54,9 @@ IsTurn before now None =
 IsTurn before now (Some end) = (turn_of before ≡ Ends (ended before end)) × (now ≡ before) × ((end ≡ ending.Sat) → IsFalse (clash (all_under before)))
 
 -- at the start, unless the roots of the key clash with the clauses, nothing is learned or decided
-abbrev pub Begins : ClauseProblem → PositionSet → Bool → ℕ → Option Searching → Type 0
-Begins problem key first allowance None = IsTrue (clash (clauses_with problem key))
-Begins problem key first allowance (Some at) =
+abbrev pub HasBegun : ClauseProblem → PositionSet → Bool → ℕ → Searching → Bool → Type 0
+HasBegun problem key first allowance at false = IsTrue (clash (clauses_with problem key))
+HasBegun problem key first allowance at true =
     at ≡ record { trial = record { problem = problem; learned = []; fixed = roots_at problem key; tried = []; first = first }; decisions = []; allowance = allowance }
 
 -- whether the closure has no literal of the variable

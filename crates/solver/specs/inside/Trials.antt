@@ -1,6 +1,6 @@
 -- What stands while decisions are tried: assumed literals that stay, and behind them variables that are assumed to have
 -- the first value.
-use Rattle.std.specs.Prelude.{◌≡◌, ◌<◌, ◌≤◌, ℕ, Bool, IsTrue, All, List, [], ◌++◌, drop, filter, length, map, nat_lt, Option, Some, None}
+use Rattle.std.specs.Prelude.{◌≡◌, ◌<◌, ◌≤◌, ℕ, Bool, false, true, IsTrue, All, List, [], ◌++◌, drop, filter, length, map, nat_lt}
 use Rattle.lists.specs.Distinct.{IsDistinct}
 use Rattle.req_keys.specs.Key.{PositionSet}
 use Rattle.clauses.specs.declared.literal.Lit.{Lit}
@@ -33,9 +33,9 @@ abbrev pub SameButTried : Trying → Trying → Type 0
 SameButTried a b = (b.problem ≡ a.problem) × (b.learned ≡ a.learned) × (b.fixed ≡ a.fixed) × (b.first ≡ a.first)
 
 -- at the start the roots of the key stay, unless they clash with the clauses
-abbrev pub Starts : ClauseProblem → PositionSet → Bool → Option Trying → Type 0
-Starts problem key first None = IsTrue (clash (clauses_with problem key))
-Starts problem key first (Some at) = at ≡ record { problem = problem; learned = []; fixed = roots_at problem key; tried = []; first = first }
+abbrev pub HasStarted : ClauseProblem → PositionSet → Bool → Trying → Bool → Type 0
+HasStarted problem key first at false = IsTrue (clash (clauses_with problem key))
+HasStarted problem key first at true = at ≡ record { problem = problem; learned = []; fixed = roots_at problem key; tried = []; first = first }
 
 -- the variables of the literals that are assumed behind those that stay
 abbrev pub tried_of : Propagation → ℕ → List ℕ

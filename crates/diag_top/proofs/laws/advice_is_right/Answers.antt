@@ -3,7 +3,6 @@ use Rattle.std.specs.Prelude.{unwrap_or, get_or}
 use Rattle.clause_form.specs.ClauseForm.{problem_of, variables_of}
 use Rattle.clause_form.proofs.ProblemLaws.{is-problem}
 use Rattle.config_reader.specs.Consistent.{AreConsistent}
-use Rattle.script.specs.declared.job.Outcome.{Outcome}
 use Rattle.script.specs.declared.job.Outcome.TheVariants as outcome
 use Rattle.script.specs.Job.{Wanted}
 use Rattle.script.specs.Right.{AreTrue, IsRight}

@@ -21,8 +21,8 @@ learn-requires-clause-part c = λ v m.
     (subst (λ (items : List ℕ). IsTrimmed (Clashes c.self.inside.trial) items c.in_ok-trimmed.trimmed) c.deref.ensures.value c.in_ok-trimmed.ensures.trimmed)
     v (subst (λ (items : List ℕ). Contains items v) c.as_slice.ensures m)
 
-pub returns : goal.returns
-returns c =
+pub returns-clause-turn : goal.returns-clause-turn
+returns-clause-turn c =
     let now : Searching = c.args.self.now in
     let decisions : List ℕ = c.self.inside.decisions.items in
     let left : List ℕ = c.as_slice.result.now in

@@ -1,0 +1,16 @@
+pub mod Cuts
+pub mod FastDiagTold
+pub mod GreedyShown
+pub mod KeyLaws
+pub mod NumberLaws
+pub mod PassingLaws
+pub mod PieceLaws
+pub mod ProductLaws
+pub mod QuickXplainTold
+pub mod ReadBack
+pub mod RunDecides
+pub mod SayingLaws
+pub mod Soundness
+pub mod ToldSets
+pub mod WholeLaws
+pub mod WrittenAccepted

@@ -1,0 +1,10 @@
+pub mod Words
+pub mod Sets
+pub mod Judging
+pub mod Text
+pub mod Writing
+pub mod Accepted
+pub mod Laws
+pub mod JudgingExamples
+pub mod TextExamples
+pub mod inside

@@ -1,0 +1,10 @@
+pub mod Places
+pub mod Views
+pub mod Found
+pub mod Rule
+pub mod Steps
+pub mod Seats
+pub mod Board
+pub mod Laws
+pub mod Examples
+pub mod inside

@@ -1,0 +1,5 @@
+pub mod Ahead
+pub mod Examples
+pub mod Posting
+pub mod Postings
+pub mod inside

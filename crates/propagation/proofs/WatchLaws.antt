@@ -1,0 +1,115 @@
+-- Watched literals and their chains.
+use Rattle.std.proofs.Common.{◌≡◌, ◌∙◌, refl, sym, ap, subst, ⊎_elim, ℕ, ◌+◌, ◌*◌, ◌/◌, ◌<◌, ◌≤◌, Bool, true, false, cond, List, [], ◌∷◌, ◌++◌, length, get_or, set, take, drop, replicate, arith}
+use Rattle.std.specs.Prelude.{Contains}
+use Rattle.std.proofs.Math.ListN.{get_or-append}
+use Rattle.std.proofs.Math.Seq.{take-length, drop-length}
+use Rattle.std.proofs.lemmas.Bool.{cases_eq}
+use Rattle.std.proofs.lemmas.List.{length-set, length_push, get_or_push, length-replicate, get_or-replicate, append-nil}
+use Rattle.std.proofs.lemmas.List.Elements.{All-push}
+use Rattle.lists.proofs.Members.{first}
+use Rattle.clauses.specs.declared.literal.Lit.{Lit}
+use Rattle.clauses.specs.Clause.{negative_of}
+use Rattle.clauses.specs.Problem.{IsBelow}
+use Rattle.propagation.specs.inside.Watching.{AreWatches, IsReleased, code_of, nothing, partner, watched_at}
+use Rattle.propagation.proofs.ChainLaws.{place-same, place-other, row-some, head-inside}
+use Rattle.propagation.proofs.ChainMoves.{ended-chains, add-chains, added, added_place}
+
+-- ---- numbers of literals and entries
+
+same_number : (v w : ℕ) (p q : Bool) → 2 * v + cond p 1 0 ≡ 2 * w + cond q 1 0 → (v ≡ w) × (p ≡ q)
+same_number v w true true e = (omega arith, refl)
+same_number v w true false e = absurd (omega arith)
+same_number v w false true e = absurd (omega arith)
+same_number v w false false e = (omega arith, refl)
+
+pub code-same : (a b : Lit) → code_of a ≡ code_of b → a ≡ b
+code-same a b e =
+    let both = same_number a.var b.var a.positive b.positive e in
+    ap (λ v. record { var = v; positive = a.positive }) both.0 ∙ ap (λ p. record { var = b.var; positive = p }) both.1
+
+sign_small : (p : Bool) → cond p 1 0 ≤ 1
+sign_small true = omega arith
+sign_small false = omega arith
+
+pub code-below : (n : ℕ) (l : Lit) → l.var < n → code_of l < 2 * n
+code-below n l below = let small = sign_small l.positive in omega arith
+
+pub partner-back : (e : ℕ) → partner (partner e) ≡ e
+partner-back e = omega arith
+
+pub partner-clause : (e : ℕ) → partner e / 2 ≡ e / 2
+partner-clause e = omega arith
+
+pub partner-inside : (n e : ℕ) → e < 2 * n → partner e < 2 * n
+partner-inside n e inside = omega arith
+
+pub partner-other : (e : ℕ) → ¬ partner e ≡ e
+partner-other e same = omega arith
+
+-- ---- watches that begin, grow and end
+
+module _ (variables : ℕ) (watched : List Lit) (heads next : List ℕ) where
+  pub ended-watches : length heads ≡ 2 * variables + 1 → ((slot : ℕ) → slot < length heads → get_or heads slot 0 ≡ nothing) → AreWatches variables [] heads []
+  ended-watches size ends = record {
+    rows = (λ _. []);
+    place = (λ _. 0);
+    chains = ended-chains heads (λ _. 0) ends;
+    sized = refl;
+    slots = size;
+    below = (λ k d l. absurd (omega arith));
+    watching = (λ e l. absurd (omega arith));
+  }
+
+  module _ (are : AreWatches variables watched heads next) where
+    pub slot-inside : (l : Lit) → l.var < variables → code_of l < length heads
+    slot-inside l below = let low = code-below variables l below in let size = are.slots in omega arith
+
+    pub watch-one : (l : Lit) → l.var < variables → AreWatches variables (watched ++ l ∷ []) (set heads (code_of l) (length next)) (next ++ get_or heads (code_of l) 0 ∷ [])
+    watch-one l below =
+        let inside = slot-inside l below in
+        let size = are.sized in
+        record {
+          rows = added heads next are.rows are.place are.chains (code_of l) inside;
+          place = added_place heads next are.rows are.place are.chains (code_of l) inside;
+          chains = add-chains heads next are.rows are.place are.chains (code_of l) inside;
+          sized = (let a = length_push next (get_or heads (code_of l) 0) in let b = length_push watched l in omega arith);
+          slots = length-set heads (code_of l) (length next) ∙ are.slots;
+          below = All-push (IsBelow variables) watched l are.below below;
+          watching = (λ e i.
+              let longer = length_push watched l in
+              ⊎_elim
+              (λ (here : e ≡ length next).
+              place-same are.place (length next) (code_of l) e here ∙ ap code_of (sym (get_or_push watched l (negative_of 0) e (let s = size in omega arith))))
+              (λ (other : ¬ e ≡ length next).
+              let old : e < length watched = omega arith in
+              place-other are.place (length next) (code_of l) e other ∙ are.watching e old ∙ ap code_of (sym (get_or-append watched (l ∷ []) (negative_of 0) e old)))
+              (cases_eq e (length next)));
+        }
+
+    pub release-all : (new : List ℕ) → IsReleased heads watched new → (slot : ℕ) → slot < length new → get_or new slot 0 ≡ nothing
+    release-all new is slot inside =
+        let old : slot < length heads = subst (λ n. slot < n) is.0 inside in
+        ⊎_elim
+        (λ (e : get_or new slot 0 ≡ nothing). e)
+        (λ (stays : (get_or new slot 0 ≡ get_or heads slot 0) × ((entry : ℕ) → entry < length watched → ¬ code_of (watched_at watched entry) ≡ slot)).
+        ⊎_elim
+        (λ (e : get_or heads slot 0 ≡ nothing). stays.0 ∙ e)
+        (λ (some : ¬ get_or heads slot 0 ≡ nothing).
+        let row = row-some heads next are.rows are.place are.chains slot old some in
+        let entry_in : get_or heads slot 0 < length next = head-inside heads next are.rows are.place are.chains slot old some in
+        let size = are.sized in
+        let within : get_or heads slot 0 < length watched = omega arith in
+        let there : Contains (are.rows slot) (get_or heads slot 0) = subst (λ r. Contains r (get_or heads slot 0)) (sym row.1) (first (get_or heads slot 0) row.0) in
+        absurd (stays.1 (get_or heads slot 0) within (sym (are.watching (get_or heads slot 0) within) ∙ are.chains.placed slot (get_or heads slot 0) old there)))
+        (cases_eq (get_or heads slot 0) nothing))
+        (is.1 slot old)
+
+pub ended-replicate : (variables : ℕ) → AreWatches variables [] (replicate (2 * variables + 1) nothing) []
+ended-replicate variables =
+    ended-watches variables [] (replicate (2 * variables + 1) nothing) [] (length-replicate (2 * variables + 1) nothing)
+    (λ slot inside. get_or-replicate (2 * variables + 1) slot nothing 0 (subst (λ n. slot < n) (length-replicate (2 * variables + 1) nothing) inside))
+
+-- a slice that is lent whole
+pub whole : {X : Type 0} (n : ℕ) (xs ys : List X) → n ≡ length ys → length xs ≡ length ys → take n (xs ++ drop (length xs) ys) ≡ xs
+whole n xs ys a b =
+    ap (λ k. take n (xs ++ drop k ys)) b ∙ ap (λ zs. take n (xs ++ zs)) (drop-length ys) ∙ ap (take n) (append-nil xs) ∙ ap (λ k. take k xs) (a ∙ sym b) ∙ take-length xs

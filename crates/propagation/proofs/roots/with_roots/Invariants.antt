@@ -1,6 +1,0 @@
-use Rattle.std.proofs.Common.{take}
-use Rattle.propagation.proofs.RootLaws.{AreAssumed}
-use Rattle.propagation.proofs.roots.with_roots.Given as goal
-
-abbrev pub invariant-loop-position : goal.invariant-loop-position
-invariant-loop-position l = AreAssumed l.fn.problem l.propagator (take l.position-index l.position-items)

@@ -1,0 +1,138 @@
+//! The trail.
+ghost use Rattle.std.specs.Prelude.{◌≡◌, ◌<◌, ◌≤◌, [], ◌∷◌, ◌++◌, IfOk, Some, false, length, slice_get, take};
+ghost use Rattle.clauses.specs.Clause.{has, negation};
+ghost use Rattle.propagation.specs.inside.Trails.{IsOneSigned, IsTakenIn, value_in};
+
+use clauses::Lit;
+use std::alloc::{AllocError, Global};
+use std::marker::Model;
+
+/// The literals that are true, in the order in which they came, at most one of each variable.
+#[derive(Drop)]
+pub(crate) struct Trail {
+    /// With room for one of each variable.
+    literals: Vec<Lit>,
+    /// By the variable's number: where its literal stands, if one does.
+    places: Vec<usize>,
+}
+
+impl Model for Trail {
+    ghost use Rattle.std.specs.Prelude.{length, vec_capacity};
+    ghost use Rattle.propagation.specs.inside.Trails.{IsTrail, Trailing};
+
+    ghost Value = { Trailing };
+
+    ghost view = { λ a. record { variables = length a.places.items; literals = a.literals.items } };
+
+    ghost invariant = { λ a. IsTrail a.literals.items a.places.items (vec_capacity a.literals) };
+}
+
+impl Trail {
+    /// The empty trail, for so many variables.
+    pub fn new(alloc: Global, variables: usize) -> Result<Trail, AllocError>
+        ensures { IfOk result (λ trail. trail ≡ record { variables = variables; literals = [] }) }
+    {
+        let literals = Vec::with_capacity(alloc, variables)?;
+        let places = vec![in alloc; 0; variables]?;
+        Ok(Trail { literals, places })
+    }
+
+    pub fn len(&self) -> usize
+        ensures value { result ≡ length self.now.literals }
+        ensures most { result ≤ self.now.variables }
+        ensures one_signed { IsOneSigned self.now.literals }
+    {
+        self.literals.len()
+    }
+
+    pub fn get(&self, i: usize) -> Lit
+        requires { i < length self.now.literals }
+        ensures value { slice_get self.now.literals i ≡ Some result }
+        ensures variable { result.var < self.now.variables }
+    {
+        self.literals[i]
+    }
+
+    /// Whether the literal is on the trail.
+    pub fn is_true(&self, literal: Lit) -> bool
+        requires { literal.var < self.now.variables }
+        ensures answer { result ≡ has self.now.literals literal }
+        ensures one_signed { IsOneSigned self.now.literals }
+    {
+        let place = self.places[literal.var as usize];
+        place < self.literals.len() && self.literals[place] == literal
+    }
+
+    /// Whether its negation is.
+    pub fn is_false(&self, literal: Lit) -> bool
+        requires { literal.var < self.now.variables }
+        ensures { result ≡ has self.now.literals (negation literal) }
+    {
+        self.is_true(literal.negated())
+    }
+
+    /// Whether the literal is among the first so many.
+    pub fn was_true(&self, literal: Lit, count: usize) -> bool
+        requires { literal.var < self.now.variables }
+        ensures { result ≡ has (take count self.now.literals) literal }
+    {
+        self.places[literal.var as usize] < count && self.is_true(literal)
+    }
+
+    /// Whether its negation is.
+    pub fn was_false(&self, literal: Lit, count: usize) -> bool
+        requires { literal.var < self.now.variables }
+        ensures { result ≡ has (take count self.now.literals) (negation literal) }
+    {
+        self.was_true(literal.negated(), count)
+    }
+
+    /// Makes the literal true, unless it is.
+    pub fn take_in(&mut self, literal: Lit)
+        requires variable { literal.var < self.old.variables }
+        requires not_false { has self.old.literals (negation literal) ≡ false }
+        ensures { IsTakenIn self.old literal self.new }
+    {
+        if !self.is_true(literal) {
+            self.put(literal);
+        }
+    }
+
+    /// What the trail says of the variable.
+    pub fn value(&self, var: u32) -> Option<bool>
+        requires { var < self.now.variables }
+        ensures { result ≡ value_in self.now.literals var }
+    {
+        if self.is_true(Lit {
+            var,
+            positive: true,
+        }) {
+            return Some(true);
+        }
+        if self.is_true(Lit {
+            var,
+            positive: false,
+        }) {
+            return Some(false);
+        }
+        None
+    }
+
+    /// Appends the literal.
+    pub fn put(&mut self, literal: Lit)
+        requires variable { literal.var < self.old.variables }
+        requires not_true { has self.old.literals literal ≡ false }
+        requires not_false { has self.old.literals (negation literal) ≡ false }
+        ensures { self.new ≡ record self.old { literals = self.old.literals ++ literal ∷ [] } }
+    {
+        self.places[literal.var as usize] = self.literals.len();
+        self.literals.push_reserved(literal);
+    }
+
+    /// Keeps the first so many.
+    pub fn cut(&mut self, count: usize)
+        ensures { self.new ≡ record self.old { literals = take count self.old.literals } }
+    {
+        self.literals.truncate(count);
+    }
+}

@@ -1,0 +1,58 @@
+//! What becomes of a clause when a literal that it watches is false.
+ghost use Rattle.std.specs.Prelude.{◌≡◌, ◌<◌, ◌↔◌, All, Contains, IsTrue};
+ghost use Rattle.clauses.specs.Problem.{IsBelow};
+ghost use Rattle.propagation.specs.inside.Visits.{IsReplacement, IsVisit};
+
+use crate::trail::Trail;
+use clauses::Lit;
+
+/// What becomes of it.
+#[derive(Clone, Copy)]
+pub(crate) enum Visit {
+    /// The other watched literal is true, so it may be watched as before.
+    Stays,
+    /// This literal is to be watched.
+    Moves(Lit),
+    /// All its literals are false.
+    Refuted,
+}
+
+/// Whether the literals are one.
+fn is_same(a: Lit, b: Lit) -> bool
+    ensures { IsTrue result ↔ (a ≡ b) }
+{
+    a == b
+}
+
+/// A literal of the clause that isn't false, and isn't the other watched one.
+fn replacement(clause: &[Lit], other: Lit, trail: &Trail) -> Option<Lit>
+    requires { All (IsBelow trail.now.variables) clause.now }
+    ensures { IsReplacement trail.now.literals clause.now other result }
+{
+    for literal in clause {
+        if is_same(*literal, other) || trail.is_false(*literal) {
+            continue;
+        }
+        return Some(*literal);
+    }
+    None
+}
+
+/// Looks at the clause, and brings in the other watched literal where it is forced.
+pub(crate) fn look_at(clause: &[Lit], other: Lit, trail: &mut Trail) -> Visit
+    requires clause { All (IsBelow trail.old.variables) clause.now }
+    requires other { other.var < trail.old.variables }
+    ensures { IsVisit trail.old trail.new clause.now other result }
+{
+    if trail.is_true(other) {
+        return Visit::Stays;
+    }
+    if let Some(literal) = replacement(clause, other, trail) {
+        return Visit::Moves(literal);
+    }
+    if trail.is_false(other) {
+        return Visit::Refuted;
+    }
+    trail.put(other);
+    Visit::Stays
+}

@@ -1,0 +1,202 @@
+//! Which literals of each clause are watched.
+ghost use Rattle.std.specs.Prelude.{◌≡◌, ◌≢◌, ◌+◌, ◌*◌, ◌/◌, ◌<◌, ◌≤◌, ◌^◌, ◌++◌, [], ◌∷◌, All, Any, Contains, IfOk, IsFalse, IsTrue, List, OnOk, slice_get, slice_index, slice_index_or, slice_set, length, Some, ℕ};
+ghost use Rattle.clauses.specs.declared.literal.Lit.{Lit};
+ghost use Rattle.clauses.specs.Clause.{negation};
+ghost use Rattle.clauses.specs.Problem.{IsBelow};
+ghost use Rattle.propagation.specs.inside.Visits.{IsStep};
+ghost use Rattle.propagation.specs.inside.Watching.{AreInside, AreKept, IsGrowth, IsRefuted, IsReleased, code_of, partner, watched_at};
+
+use crate::trail::Trail;
+use crate::visits::{Visit, look_at};
+use clauses::{Clause, Lit};
+use std::alloc::{AllocError, Global};
+use std::marker::Model;
+
+/// What stands in place of an entry where a chain ends.
+const NOTHING: usize = usize::MAX;
+
+/// Two watched literals of each clause, in two entries. A chain leads through the entries of each literal, so that
+/// watching another literal takes no memory.
+#[derive(Drop)]
+pub(crate) struct Watches {
+    variables: usize,
+    /// The literal that each entry watches.
+    watched: Vec<Lit>,
+    /// The entry behind each entry in its chain.
+    next: Vec<usize>,
+    /// The first entry of the chain of each literal, by its number. The last chain is spare.
+    heads: Vec<usize>,
+}
+
+impl Model for Watches {
+    ghost use Rattle.std.specs.Prelude.{min, vec_capacity};
+    ghost use Rattle.propagation.specs.inside.Watching.{AreWatches, Watching};
+
+    ghost Value = { Watching };
+
+    ghost view = { λ a. record { variables = a.variables; watched = a.watched.items; room = min (vec_capacity a.watched) (vec_capacity a.next) } };
+
+    ghost invariant = { λ a. AreWatches a.variables a.watched.items a.heads.items a.next.items };
+}
+
+impl Watches {
+    /// Nothing is watched.
+    pub fn new(alloc: Global, variables: usize) -> Result<Watches, AllocError>
+        requires { variables ≤ 1000000 }
+        ensures variables { IfOk result (λ watches. watches.variables ≡ variables) }
+        ensures watched { IfOk result (λ watches. watches.watched ≡ []) }
+    {
+        let heads = vec![in alloc; NOTHING; 2 * variables + 1]?;
+        Ok(Watches {
+            variables,
+            watched: Vec::new(alloc),
+            next: Vec::new(alloc),
+            heads,
+        })
+    }
+
+    /// Makes room for the entries of one clause more.
+    pub fn reserve(&mut self) -> Result<(), AllocError>
+        ensures variables { self.new.variables ≡ self.old.variables }
+        ensures watched { self.new.watched ≡ self.old.watched }
+        ensures room { OnOk result (length self.new.watched + 2 ≤ self.new.room) }
+    {
+        self.watched.reserve(2)?;
+        self.next.reserve(2)?;
+        Ok(())
+    }
+
+    /// Appends an entry.
+    fn watch(&mut self, literal: Lit)
+        requires variable { IsBelow self.old.variables literal }
+        requires room { length self.old.watched < self.old.room }
+        ensures { self.new ≡ record self.old { watched = self.old.watched ++ literal ∷ [] } }
+    {
+        let slot = code_of(literal);
+        let entry = self.next.len();
+        self.next.push_reserved(self.heads[slot]);
+        self.watched.push_reserved(literal);
+        self.heads[slot] = entry;
+    }
+
+    /// Watches two literals of one clause more.
+    pub fn attach(&mut self, one: Lit, other: Lit)
+        requires one { IsBelow self.old.variables one }
+        requires other { IsBelow self.old.variables other }
+        requires room { length self.old.watched + 2 ≤ self.old.room }
+        ensures { self.new ≡ record self.old { watched = self.old.watched ++ one ∷ other ∷ [] } }
+    {
+        self.watch(one);
+        self.watch(other);
+    }
+
+    /// Nothing is watched any more. What was reserved stays so.
+    pub fn clear(&mut self)
+        ensures variables { self.new.variables ≡ self.old.variables }
+        ensures watched { self.new.watched ≡ [] }
+    {
+        release(&mut self.heads, &self.watched);
+        self.watched.clear();
+        self.next.clear();
+    }
+
+    /// Looks at the clauses that watch the literal, which is false now, and brings in what they force. False where one is
+    /// refuted.
+    pub fn spread(&mut self, clauses: &[Clause], literal: Lit, trail: &mut Trail) -> bool
+        requires inside { AreInside clauses.now self.old.watched }
+        requires below { All (All (IsBelow self.old.variables)) clauses.now }
+        requires variables { trail.old.variables ≡ self.old.variables }
+        requires variable { IsBelow self.old.variables literal }
+        requires is_false { Contains trail.old.literals (negation literal) }
+        ensures same { self.new.variables ≡ self.old.variables }
+        ensures inside { AreInside clauses.now self.new.watched }
+        ensures growth { IsGrowth clauses.now trail.old trail.new }
+        ensures kept { AreKept trail.old.literals self.old.watched self.new.watched }
+        ensures seen { IsTrue result → (entry : ℕ) → entry < length self.new.watched → watched_at self.new.watched entry ≡ literal → Contains trail.new.literals (watched_at self.new.watched (partner entry)) }
+        ensures refuted { IsFalse result → Any (IsRefuted trail.new.literals) clauses.now }
+    {
+        let from = code_of(literal);
+        let spare = 2 * self.variables;
+        let mut fits = true;
+        while self.heads[from] != NOTHING {
+            let entry = self.heads[from];
+            let to = step(clauses, &mut self.watched, entry, trail, spare, &mut fits);
+            shift(&mut self.heads, &mut self.next, from, to);
+        }
+        self.heads[from] = self.heads[spare];
+        self.heads[spare] = NOTHING;
+        fits
+    }
+}
+
+/// The number of the literal.
+fn code_of(literal: Lit) -> usize
+    ensures { result ≡ code_of literal }
+{
+    2 * literal.var as usize + usize::from(literal.positive)
+}
+
+/// The other entry of the same clause.
+fn partner(entry: usize) -> usize
+    requires { entry + 1 < 2 ^ 64 }
+    ensures { result ≡ partner entry }
+{
+    entry + 1 - 2 * (entry % 2)
+}
+
+/// Looks at the clause of the entry, unless one is refuted already, and answers to which slot the entry goes.
+fn step(
+    clauses: &[Clause],
+    watched: &mut [Lit],
+    entry: usize,
+    trail: &mut Trail,
+    spare: usize,
+    fits: &mut bool,
+) -> usize
+    requires entry { entry < length watched.old }
+    requires sized { length watched.old ≡ 2 * length clauses.now }
+    requires clauses { All (All (IsBelow trail.old.variables)) clauses.now }
+    requires watched { All (IsBelow trail.old.variables) watched.old }
+    ensures { IsStep spare entry (slice_index_or clauses.now (entry / 2) []) (watched_at watched.old (partner entry)) watched.old watched.new trail.old trail.new fits.old fits.new result }
+{
+    if !*fits {
+        return spare;
+    }
+    let other = watched[partner(entry)];
+    match look_at(clauses[entry / 2].as_slice(), other, trail) {
+        Visit::Stays => spare,
+        Visit::Moves(found) => {
+            watched[entry] = found;
+            code_of(found)
+        }
+        Visit::Refuted => {
+            *fits = false;
+            spare
+        }
+    }
+}
+
+/// Moves the first entry of one chain to the front of another.
+fn shift(heads: &mut [usize], next: &mut [usize], from: usize, to: usize)
+    requires from { from < length heads.old }
+    requires to { to < length heads.old }
+    requires apart { from ≢ to }
+    requires some { slice_index heads.old from < length next.old }
+    ensures heads { heads.new ≡ slice_set (slice_set heads.old from (slice_index next.old (slice_index heads.old from))) to (slice_index heads.old from) }
+    ensures next { next.new ≡ slice_set next.old (slice_index heads.old from) (slice_index heads.old to) }
+{
+    let entry = heads[from];
+    heads[from] = next[entry];
+    next[entry] = heads[to];
+    heads[to] = entry;
+}
+
+/// Ends the chains of these literals at once.
+fn release(heads: &mut [usize], watched: &[Lit])
+    requires { (k : ℕ) → k < length watched.now → code_of (watched_at watched.now k) < length heads.old }
+    ensures { IsReleased heads.old watched.now heads.new }
+{
+    for literal in watched {
+        heads[code_of(*literal)] = NOTHING;
+    }
+}
