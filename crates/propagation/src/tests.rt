@@ -1,5 +1,5 @@
 //! Propagators over problems of four variables, worked by hand. A letter is a literal, a word is a clause.
-ghost use Rattle.std.specs.Prelude.{◌≡◌, IfOk};
+ghost use Rattle.std.specs.Prelude.{◌≡◌, [], IfOk};
 
 use crate::{Propagator, with_roots};
 use clauses::{Clauses, Lits, Problem, clause_of, clauses_of, literal_of};
@@ -54,20 +54,55 @@ fn signs_of(propagator: &Propagator<'_>) -> [u8; 4]
     ]
 }
 
-/// Those of the propagator of the row.
-fn signs_at(alloc: Global, row: &Row) -> Result<[u8; 4], AllocError> {
-    let problem = problem_of(alloc, row.clauses)?;
-    let mut propagator = Propagator::new(alloc, &problem)?;
+/// Learns the row's clauses.
+fn learn_all(
+    alloc: Global,
+    propagator: &mut Propagator<'_>,
+    row: &Row,
+) -> Result<(), AllocError>
+    requires { propagator.old.problem.variables ≡ 4 }
+    ensures problem { propagator.new.problem ≡ propagator.old.problem }
+    ensures assumed { propagator.new.assumed ≡ propagator.old.assumed }
+{
     for word in row.learned {
         let clause = clause_of(alloc, 4, word)?;
         propagator.learn(clause.as_slice())?;
     }
+    Ok(())
+}
+
+/// Assumes the row's literals, up to a clash.
+fn assume_all(propagator: &mut Propagator<'_>, row: &Row)
+    requires variables { propagator.old.problem.variables ≡ 4 }
+    requires none { propagator.old.assumed ≡ [] }
+    ensures { propagator.new.problem ≡ propagator.old.problem }
+{
     for letter in row.assumed {
         if *letter != b' ' && !propagator.clashes() {
             propagator.assume(literal_of(4, *letter));
         }
     }
-    Ok(signs_of(&propagator))
+}
+
+/// The values after the row's clauses are learned and its literals assumed.
+fn signs_after(
+    alloc: Global,
+    propagator: &mut Propagator<'_>,
+    row: &Row,
+) -> Result<[u8; 4], AllocError>
+    requires variables { propagator.old.problem.variables ≡ 4 }
+    requires none { propagator.old.assumed ≡ [] }
+{
+    learn_all(alloc, propagator, row)?;
+    assume_all(propagator, row);
+    Ok(signs_of(propagator))
+}
+
+/// Those of the propagator of the row.
+fn signs_at(alloc: Global, row: &Row) -> Result<[u8; 4], AllocError> {
+    let problem = problem_of(alloc, row.clauses)?;
+    let mut propagator = Propagator::new(alloc, &problem)?;
+    signs_after(alloc, &mut propagator, row)
 }
 
 /// Worked by hand.
