@@ -55,11 +55,7 @@ fn signs_of(propagator: &Propagator<'_>) -> [u8; 4]
 }
 
 /// Learns the row's clauses.
-fn learn_all(
-    alloc: Global,
-    propagator: &mut Propagator<'_>,
-    row: &Row,
-) -> Result<(), AllocError>
+fn learn_all(alloc: Global, propagator: &mut Propagator<'_>, row: &Row) -> Result<(), AllocError>
     requires { propagator.old.problem.variables ≡ 4 }
     ensures problem { propagator.new.problem ≡ propagator.old.problem }
     ensures assumed { propagator.new.assumed ≡ propagator.old.assumed }
