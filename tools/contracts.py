@@ -85,7 +85,7 @@ def owner_of(line):
                 head = head[at + 1:].strip()
                 break
     names = re.split(r" for ", head, maxsplit=1)
-    plain = lambda it: re.match(r"[&\w:]*", it.strip()).group().split("::")[-1]
+    plain = lambda it: re.match(r"&?(\w+(?:::\w+)*)", it.strip()).group(1).split("::")[-1]
     if len(names) == 2:
         return plain(names[1]), plain(names[0])
     return plain(head), None
@@ -138,6 +138,9 @@ def calls_of_file(crate, path, home=HOME):
             if clause:
                 text, at = clause_end(lines, at + 1, clause.group(3))
                 (call.requires if clause.group(1) == "requires" else call.ensures).append((clause.group(2) or "", text))
+                if lines[at - 1].endswith("};"):
+                    body = ";"
+                    break
                 continue
             plain = line.strip()
             if line == indent + "{}" or line == indent + "{":
@@ -157,9 +160,6 @@ def calls_of_file(crate, path, home=HOME):
             if not call.ensures and not call.requires:
                 signature.append(plain.rstrip(";"))
             if plain.endswith(";") and body is None:
-                body = ";"
-                break
-            if kind == "trait" and at < len(lines) and (not lines[at].strip() or lines[at] == "}") and call.ensures:
                 body = ";"
                 break
         call.signature = re.sub(r",\s*\)", ")", re.sub(r"\(\s+", "(", " ".join(signature)))
