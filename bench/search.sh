@@ -1,100 +1,110 @@
 #!/usr/bin/env bash
-# Times `solve` on generated problems, as LLVM builds it. The program is made in a folder of its own, proved, run and
-# removed: bench/search.sh
+# Times the program on the instances of bench/instances.py, and other solvers of the same job beside it, and prints a table.
+#
+#   bench/search.sh PROGRAM [PEERS] [WORD]
+#
+# PEERS is the folder that bench/peers.sh built; without it the program runs alone. WORD takes the instances whose names have it. A run is
+# stopped after $SECONDS_EACH seconds (120). Times are of the whole process, the best of $RUNS runs (3; one where it took more than ten
+# seconds), reading included. 'Learned' counts the learned clauses in the program's certificate, which shows those of the checks that the
+# answer rests on; a limit has none. 'Same' says whether all peers found the program's result, diagnosis, conflict and number of checks.
 set -euo pipefail
-root=$(cd "$(dirname "$0")/.." && pwd)
-work=$(mktemp -d)
-trap 'rm -rf "$work"' EXIT
-mkdir -p "$work/crates"
-for name in lists req_keys pref_sets clauses propagation solver; do
-    cp -r "$root/crates/$name" "$work/crates/$name"
-    rm -rf "$work/crates/$name/out"
-done
-{
-    grep -E '^(lists|req_keys|pref_sets|clauses|propagation|solver):' "$root/crates.txt"
-    echo 'search_bench: anyhow clauses req_keys solver'
-} > "$work/crates.txt"
-bench="$work/crates/search_bench"
-mkdir -p "$bench/src" "$bench/proofs/implications"
-cat > "$bench/src/main.rt" <<'PROGRAM'
-//! Times the search on generated problems.
-#![tactic(auto)]
-ghost use Rattle.std.specs.Prelude.{◌≡◌, ◌<◌, ◌≤◌, ◌*◌, ◌+◌, All, IfOk, OnOk};
-ghost use Rattle.clauses.specs.Problem.{IsBelow};
+[ $# -ge 1 ] && [ -x "$1" ] || { sed -n '2,11s/^# \{0,1\}//p' "$0" >&2; exit 64; }
+here=$(cd "$(dirname "$0")" && pwd)
+program=$(realpath "$1")
+peers=${2:+$(realpath "$2")}
+room=$(mktemp -d)
+trap 'rm -rf "$room"' EXIT
+"$here/instances.py" "$room" "$program" >/dev/null
+SEARCH_PROGRAM=$program SEARCH_PEERS=$peers SEARCH_ROOM=$room SEARCH_WORD=${3:-} RUNS=${RUNS:-3} SECONDS_EACH=${SECONDS_EACH:-120} python3 - <<'PYTHON'
+import json, os, re, subprocess, sys, time
 
-use anyhow::Error;
-use clauses::{Clause, Clauses, Lit, Lits, Problem};
-use req_keys::Key;
-use solver::{Answer, NoStop, solve};
-use std::alloc::{AllocError, Global};
-use std::time::Instant;
+program, peers, room = (os.environ["SEARCH_" + it] for it in ("PROGRAM", "PEERS", "ROOM"))
+runs, most = int(os.environ["RUNS"]), float(os.environ["SECONDS_EACH"])
+BACKENDS = ["defhalves", "minisat", "cadical"] if peers else []
 
-fn literal(var: u32, positive: bool) -> Lit
-    ensures { result ≡ record { var = var; positive = positive } }
-{
-    Lit { var, positive }
-}
 
-/// Each variable implies the next one, or is implied by it.
-fn implications(alloc: Global, count: u32, forwards: bool) -> Result<Clauses, AllocError>
-    requires { count ≤ 1000000 }
-    ensures { IfOk result (All (All (IsBelow count))) }
-{
-    let mut clauses = Clauses::new(alloc);
-    for i in 1..count {
-        let pair = [literal(i - 1, !forwards), literal(i, forwards)];
-        clauses.push(Clause::from_slice(alloc, &pair)?)?;
-    }
-    Ok(clauses)
-}
+def timed(command):
+    """The best time, the status and the text; no time where it was stopped."""
+    best, done = None, None
+    for _ in range(runs):
+        begin = time.monotonic()
+        try:
+            done = subprocess.run(command, stdin=subprocess.DEVNULL, capture_output=True, timeout=most)
+        except subprocess.TimeoutExpired:
+            return best, done
+        took = time.monotonic() - begin
+        best = took if best is None else min(best, took)
+        if took > 10:
+            break
+    return best, done
 
-fn problem_of(clauses: Clauses, variables: u32, alloc: Global) -> Problem
-    requires few { variables ≤ 1000000 }
-    requires below { All (All (IsBelow variables)) clauses }
-{
-    Problem {
-        variables,
-        features: 0,
-        clauses,
-        roots: Lits::new(alloc),
-        allowance: 10_000,
-        rungs: 0,
-    }
-}
 
-fn time(rt: &HostRuntime, name: &str, problem: &Problem) -> Result<(), Error> {
-    let key = Key::empty(rt.alloc(), problem.n())?;
-    let start = Instant::now(rt)?;
-    let answer = solve(rt.alloc(), problem, &key, &mut NoStop);
-    let took = start.elapsed(rt)?.as_micros();
-    let word = match answer {
-        Ok(Answer::Sat(_)) => "sat",
-        Ok(Answer::Unsat(_)) => "unsat",
-        Ok(Answer::Limit) => "limit",
-        Err(_) => "no memory",
-    };
-    println!(rt; "{name}: {} variables, {} clauses, {word}, {took} us", problem.variables, problem.clauses.len())?;
-    Ok(())
-}
+def found_in(report):
+    """Result, diagnosis, conflict and number of checks of a report."""
+    found, block = {"diagnosis": [], "conflict": []}, None
+    for line in report.split("\n"):
+        words = line.split()
+        if line.startswith("  ") and block in found:
+            found[block].append(int(words[0]))
+        elif words:
+            block = words[0]
+            if block in ("result", "checks"):
+                found[block] = words[1]
+    return found["result"], found["diagnosis"], found["conflict"], int(found["checks"])
 
-fn main(rt: HostRuntime) -> Result<(), Error> {
-    let alloc = rt.alloc();
-    for count in [1000u32, 2000, 4000] {
-        let clauses = implications(alloc, count, true)?;
-        time(&rt, "forwards", &problem_of(clauses, count, alloc))?;
-        let clauses = implications(alloc, count, false)?;
-        time(&rt, "backwards", &problem_of(clauses, count, alloc))?;
-    }
-    Ok(())
-}
-PROGRAM
-cat > "$bench/proofs/implications/Invariants.antt" <<'PROOF'
-use Rattle.std.specs.Prelude.{All}
-use Rattle.clauses.specs.Problem.{IsBelow}
-use Rattle.search_bench.proofs.implications.Given as goal
 
-abbrev pub invariant-loop-i : goal.invariant-loop-i
-invariant-loop-i l = All (All (IsBelow l.fn.count)) l.clauses
-PROOF
-cd "$bench"
-rt run
+def shown(took):
+    return "more than %g" % most if took is None else "%.3f" % took
+
+
+def row(name):
+    base = os.path.join(room, name)
+    command = [program, "diagnose", base + ".uvl", base + ".conf"]
+    took, done = timed(command)
+    if done is None or done.returncode not in (0, 1, 2, 3):
+        cells, ours = ["stopped" if done is None else "status %d" % done.returncode, "", "", ""], None
+    else:
+        ours = found_in(done.stdout.decode())
+        learned = ""
+        if ours[0] != "limit":
+            try:
+                text = subprocess.run(command + ["--certify"], stdin=subprocess.DEVNULL, capture_output=True, timeout=2 * most).stdout
+                learned = str(len(re.findall(rb"^learn ", text, re.M)))
+            except subprocess.TimeoutExpired:
+                pass
+        cells = [ours[0], str(ours[3]), "%d, %d" % (len(ours[1]), len(ours[2])), learned]
+    cells.append(shown(took))
+    same = ours is not None
+    if peers:
+        subprocess.run([sys.executable, os.path.join(peers, "gen.py"), "clauses", base + ".uvl", base + ".conf", base], check=True)
+    for backend in BACKENDS:
+        time_taken, peer = timed([os.path.join(peers, "peer"), backend, "inc", base + ".cnf", base + ".roots"])
+        cells.append(shown(time_taken))
+        if peer is None or time_taken is None:
+            continue
+        theirs = json.loads(peer.stdout)
+        what = theirs["result"].split()[0]
+        if backend == "defhalves":
+            cells[-1] += " (%d)" % theirs["learned_sum"]
+        elif what == "limit" or ours and ours[0] == "limit":
+            continue
+        same = same and (what, theirs["diagnosis"], theirs["conflict"], theirs["checks"]) == ours or what == "limit" and ours and ours[0] == what
+    if peers:
+        cells.append("yes" if same else "NO")
+    print("| %s | %s |" % (name, " | ".join(cells)), flush=True)
+    return same
+
+
+def order(name):
+    return re.sub(r"\d+", lambda it: it.group().zfill(8), name)
+
+
+columns = ["instance", "result", "checks", "given up, conflict", "learned", "program"] + ["%s" % it for it in BACKENDS] + (["same"] if peers else [])
+print("seconds, best of %d, at a load of %.1f" % (runs, os.getloadavg()[0]))
+if peers:
+    print("in parentheses: how many clauses the definition of the search learns over all checks")
+print("\n| %s |\n|%s" % (" | ".join(columns), "---|" * len(columns)))
+names = sorted({it.rsplit(".", 1)[0] for it in os.listdir(room) if it.endswith(".uvl")}, key=order)
+good = [row(name) for name in names if os.environ["SEARCH_WORD"] in name]
+sys.exit(0 if all(good) else 1)
+PYTHON
