@@ -7,7 +7,8 @@ With PROGRAM the product lines that it generates are written too. What each is:
 
     chain-N, chain-back-N   N optional features, each needs the next, or the one before; the first and not the last are required
     pigeons-H               H + 3 guests, each optional and in one of H slots, no two in one; all guests are required
-    random-N-S              N optional features, 3.5 N random constraints of three literals and N such requirements, from the seed S
+    random-N-S              N optional features, 3.5 N random constraints of three literals and N such requirements, from the seed S; the seeds
+                            are some whose requirements can't all be met
     loose-N                 N optional features and nothing else
     keys-N-K                a tree of N features beside the root, and K requirements, each second the negation of the one before it
     line-N                  the product line of N features that `generate 1 N` draws
@@ -75,8 +76,8 @@ def instances(program):
         yield "chain-back-%d" % count, chain(count, True)
     for slots in (5, 6, 7):
         yield "pigeons-%d" % slots, pigeons(slots)
-    for count in (50, 75, 100):
-        for seed in (1, 2):
+    for count, seeds in ((50, (1, 2)), (75, (5, 6)), (100, (1, 3))):
+        for seed in seeds:
             yield "random-%d-%d" % (count, seed), random_clauses(count, seed)
     yield "loose-20000", (optional(["X%d" % i for i in range(1, 20000)]), [])
     yield "keys-60000-680", keys(60000, 680)

@@ -3,18 +3,20 @@
 #
 #   bench/search.sh PROGRAM [PEERS] [WORD]
 #
-# PEERS is the folder that bench/peers.sh built; without it the program runs alone. WORD takes the instances whose names have it. A run is
+# PEERS is the folder that bench/peers.sh built; without it the program runs alone, and with - for PROGRAM the peers do, on all instances but
+# the product lines, which the program draws. WORD takes the instances whose names have it. A run is
 # stopped after $SECONDS_EACH seconds (120). Times are of the whole process, the best of $RUNS runs (3; one where it took more than ten
 # seconds), reading included. 'Learned' counts the learned clauses in the program's certificate, which shows those of the checks that the
 # answer rests on; a limit has none. 'Same' says whether all peers found the program's result, diagnosis, conflict and number of checks.
 set -euo pipefail
-[ $# -ge 1 ] && [ -x "$1" ] || { sed -n '2,11s/^# \{0,1\}//p' "$0" >&2; exit 64; }
+[ $# -ge 1 ] && { [ -x "$1" ] || [ "$1" = - ]; } || { sed -n '2,12s/^# \{0,1\}//p' "$0" >&2; exit 64; }
 here=$(cd "$(dirname "$0")" && pwd)
-program=$(realpath "$1")
+program=
+[ "$1" = - ] || program=$(realpath "$1")
 peers=${2:+$(realpath "$2")}
 room=$(mktemp -d)
 trap 'rm -rf "$room"' EXIT
-"$here/instances.py" "$room" "$program" >/dev/null
+"$here/instances.py" "$room" ${program:+"$program"} >/dev/null
 SEARCH_PROGRAM=$program SEARCH_PEERS=$peers SEARCH_ROOM=$room SEARCH_WORD=${3:-} RUNS=${RUNS:-3} SECONDS_EACH=${SECONDS_EACH:-120} python3 - <<'PYTHON'
 import json, os, re, subprocess, sys, time
 
@@ -60,8 +62,10 @@ def shown(took):
 def row(name):
     base = os.path.join(room, name)
     command = [program, "diagnose", base + ".uvl", base + ".conf"]
-    took, done = timed(command)
-    if done is None or done.returncode not in (0, 1, 2, 3):
+    took, done = timed(command) if program else (None, None)
+    if not program:
+        cells, ours = ["", "", "", ""], None
+    elif done is None or done.returncode not in (0, 1, 2, 3):
         cells, ours = ["stopped" if done is None else "status %d" % done.returncode, "", "", ""], None
     else:
         ours = found_in(done.stdout.decode())
@@ -73,8 +77,8 @@ def row(name):
             except subprocess.TimeoutExpired:
                 pass
         cells = [ours[0], str(ours[3]), "%d, %d" % (len(ours[1]), len(ours[2])), learned]
-    cells.append(shown(took))
-    same = ours is not None
+    cells.append(shown(took) if program else "")
+    same = ours is not None or not program
     if peers:
         subprocess.run([sys.executable, os.path.join(peers, "gen.py"), "clauses", base + ".uvl", base + ".conf", base], check=True)
     for backend in BACKENDS:
@@ -84,6 +88,9 @@ def row(name):
             continue
         theirs = json.loads(peer.stdout)
         what = theirs["result"].split()[0]
+        if ours is None and not program:
+            ours = what, theirs["diagnosis"], theirs["conflict"], theirs["checks"]
+            cells[:3] = [what, str(ours[3]), "%d, %d" % (len(ours[1]), len(ours[2]))]
         if backend == "defhalves":
             cells[-1] += " (%d)" % theirs["learned_sum"]
         elif what == "limit" or ours and ours[0] == "limit":
