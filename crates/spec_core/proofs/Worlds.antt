@@ -24,6 +24,12 @@ use Rattle.spec_core.specs.World.{HoldsVerdict, IsAlong, World, asks_in, new_wor
 use Rattle.spec_core.proofs.Boards.{AreHeld, held-answer, held-cancel, held-claim, held-draw, held-entry, held-give_up, held-leave, held-post, held-round, held-stop, held-take}
 
 module _ (verdict : PositionSet → Verdict) where
+  abbrev Holds : PositionSet → Cell → Type 0
+  Holds = HoldsVerdict verdict
+
+  goes_on : (key : PositionSet) (before now : Cell) → HoldsVerdict verdict key now → Holds key before → Holds key now
+  goes_on key before now is held = is
+
   -- along, with the plan as it was
   abbrev Goes : JobPlan → World → Type 0
   Goes plan world = IsAlong verdict world × (world.plan ≡ plan)
@@ -31,10 +37,10 @@ module _ (verdict : PositionSet → Verdict) where
   pub along-new : (plan : JobPlan) (workers entries : ℕ) → Goes plan (new_world plan workers entries)
   along-new plan workers entries = (record { told = (0, refl); answered = All-nil (λ (entry : Entry). HoldsVerdict verdict entry.key entry.cell) }, refl)
 
-  goes-board : (plan : JobPlan) (world : World) (change : Board → Option Board) → Goes plan world → IfSome (change world.board) (AreHeld verdict) → IfSome (on_board change world) (Goes plan)
+  goes-board : (plan : JobPlan) (world : World) (change : Board → Option Board) → Goes plan world → IfSome (change world.board) (AreHeld verdict Holds goes_on) → IfSome (on_board change world) (Goes plan)
   goes-board plan world change is held = by (change world.board) held
     where
-      by : (o : Option Board) → IfSome o (AreHeld verdict) → IfSome (option_map (λ after. record world { board = after }) o) (Goes plan)
+      by : (o : Option Board) → IfSome o (AreHeld verdict Holds goes_on) → IfSome (option_map (λ after. record world { board = after }) o) (Goes plan)
       by None held = tt
       by (Some after) held = (record { told = is.0.told; answered = held }, is.1)
 
@@ -70,7 +76,7 @@ module _ (verdict : PositionSet → Verdict) where
 
       at_entry : (key : PositionSet) (o : Option Entry) → asks_in world ≡ Some key → slice_get world.board.entries number ≡ o → IfSome (use_at o key world) (Goes plan)
       at_entry key None asks_key at = tt
-      at_entry key (Some entry) asks_key at = at_cell entry key entry.cell asks_key (held-entry verdict world.board number entry at is.0.answered)
+      at_entry key (Some entry) asks_key at = at_cell entry key entry.cell asks_key (held-entry verdict Holds goes_on world.board number entry at is.0.answered)
 
       by : (o : Option PositionSet) → asks_in world ≡ o → IfSome (option_and_then (λ key. use_at (slice_get world.board.entries number) key world) o) (Goes plan)
       by None e = tt
@@ -88,21 +94,21 @@ module _ (verdict : PositionSet → Verdict) where
     where
       by : (o : Option PositionSet) → IfSome (option_and_then (λ asked. on_board (board.post world.plan.requirements key) world) o) (Goes plan)
       by None = tt
-      by (Some asked) = goes-board plan world (board.post world.plan.requirements key) is (held-post verdict world.plan.requirements key world.board is.0.answered)
+      by (Some asked) = goes-board plan world (board.post world.plan.requirements key) is (held-post verdict Holds goes_on world.plan.requirements key world.board (λ e. tt) is.0.answered)
 
   goes-after : (plan : JobPlan) (world : World) (e : Event) → Goes plan world → IfSome (world_after verdict e world) (Goes plan)
   goes-after plan world (event.Post key) is = goes-post plan world key is
-  goes-after plan world (event.Draw worker) is = goes-board plan world (board.draw worker) is (held-draw verdict worker world.board is.0.answered)
-  goes-after plan world (event.Claim worker) is = goes-board plan world (board.claim worker) is (held-claim verdict worker world.board is.0.answered)
-  goes-after plan world (event.Answer worker) is = goes-board plan world (board.answer verdict worker) is (held-answer verdict worker world.board is.0.answered)
-  goes-after plan world (event.GiveUp worker) is = goes-board plan world (board.give_up worker) is (held-give_up verdict worker world.board is.0.answered)
-  goes-after plan world (event.Cancel number) is = goes-board plan world (board.cancel number) is (held-cancel verdict number world.board is.0.answered)
-  goes-after plan world (event.Take number) is = goes-board plan world (board.take number) is (held-take verdict number world.board is.0.answered)
+  goes-after plan world (event.Draw worker) is = goes-board plan world (board.draw worker) is (held-draw verdict Holds goes_on worker world.board is.0.answered)
+  goes-after plan world (event.Claim worker) is = goes-board plan world (board.claim worker) is (held-claim verdict Holds goes_on worker world.board is.0.answered)
+  goes-after plan world (event.Answer worker) is = goes-board plan world (board.answer verdict worker) is (held-answer verdict Holds goes_on worker world.board is.0.answered)
+  goes-after plan world (event.GiveUp worker) is = goes-board plan world (board.give_up worker) is (held-give_up verdict Holds goes_on worker world.board is.0.answered)
+  goes-after plan world (event.Cancel number) is = goes-board plan world (board.cancel number) is (held-cancel verdict Holds goes_on number world.board is.0.answered)
+  goes-after plan world (event.Take number) is = goes-board plan world (board.take number) is (held-take verdict Holds goes_on number world.board is.0.answered)
   goes-after plan world (event.Use number) is = goes-use plan world number is
   goes-after plan world event.Solve is = goes-solve plan world is
-  goes-after plan world event.Stop is = goes-board plan world board.stop is (held-stop verdict world.board is.0.answered)
-  goes-after plan world (event.Leave worker) is = goes-board plan world (board.leave worker) is (held-leave verdict worker world.board is.0.answered)
-  goes-after plan world event.Round is = goes-board plan world board.new_round is (held-round verdict world.board)
+  goes-after plan world event.Stop is = goes-board plan world board.stop is (held-stop verdict Holds goes_on world.board is.0.answered)
+  goes-after plan world (event.Leave worker) is = goes-board plan world (board.leave worker) is (held-leave verdict Holds goes_on worker world.board is.0.answered)
+  goes-after plan world event.Round is = goes-board plan world board.new_round is (held-round verdict Holds goes_on world.board)
 
   goes-step : (plan : JobPlan) (world : World) (e : Event) → Goes plan world → Goes plan (step verdict world e)
   goes-step plan world e is = by (world_after verdict e world) (goes-after plan world e is)

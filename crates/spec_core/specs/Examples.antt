@@ -6,7 +6,8 @@ use Rattle.req_keys.specs.declared.verdict.Verdict.{Verdict}
 use Rattle.req_keys.specs.declared.verdict.Verdict.TheVariants.{Unsat}
 use Rattle.script.specs.declared.job.JobPlan.{JobPlan}
 use Rattle.script.specs.declared.job.Outcome.TheVariants as outcome
-use Rattle.spec_core.specs.declared.event.Event.TheVariants.{Post, Draw, Claim, Answer, Cancel, Take, Use, Solve, Stop, Leave, Round}
+use Rattle.spec_core.specs.declared.event.Event.TheVariants.{Post, Draw, Claim, Answer, GiveUp, Cancel, Take, Use, Solve, Stop, Leave, Round}
+use Rattle.spec_core.specs.Rounds.{goes, world_through}
 use Rattle.spec_core.specs.World.{World, ends_as, new_world, world_after, world_over}
 
 abbrev plan : ℕ → JobPlan
@@ -59,3 +60,18 @@ round-with_a_ticket = refl
 -- the told pairs stay over a round
 pub round-keeps_told : (world_over none (Solve ∷ Draw 1 ∷ Stop ∷ Leave 1 ∷ Round ∷ []) (new_world (plan 1) 1 2)) ≡ record (new_world (plan 1) 1 2) { told = (key (1 ∷ []), Unsat) ∷ [] }
 round-keeps_told = refl
+
+-- on a stopped board one worker runs its entry and another has a ticket alone
+abbrev stopped : World
+stopped = world_over none (Post (key (1 ∷ [])) ∷ Draw 1 ∷ Draw 2 ∷ Claim 1 ∷ Stop ∷ []) (new_world (plan 1) 2 2)
+
+pub round-goes : (goes stopped.board 1 ≡ GiveUp 1) × (goes stopped.board 2 ≡ Leave 2)
+round-goes = (refl, refl)
+
+-- they go in either order, and the next round begins on a new board
+pub round-anew : (world_through none (GiveUp 1 ∷ Leave 2 ∷ Round ∷ []) stopped ≡ Some (new_world (plan 1) 2 2)) × (world_through none (Leave 2 ∷ GiveUp 1 ∷ Round ∷ []) stopped ≡ Some (new_world (plan 1) 2 2))
+round-anew = (refl, refl)
+
+-- not while one of them is there, and neither goes as the other does
+pub round-early : (world_through none (GiveUp 1 ∷ Round ∷ []) stopped ≡ None) × (world_through none (Leave 1 ∷ []) stopped ≡ None) × (world_through none (GiveUp 2 ∷ []) stopped ≡ None)
+round-early = (refl, refl, refl)

@@ -1,2 +1,4 @@
 pub mod Examples
+pub mod Rounds
 pub mod World
+pub mod inside

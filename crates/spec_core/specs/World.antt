@@ -1,6 +1,7 @@
 -- A world: a plan, the told pairs, and the board; what each event does to it; and what holds of each world that events lead to.
 -- Own to this project.
 use Rattle.std.specs.Prelude.{◌≡◌, ℕ, Bool, true, false, ◌++◌, List, [], ◌∷◌, All, fold, option_map, option_and_then, slice_get, unwrap_or, if◌then◌else◌, Option, Some, None}
+use Rattle.clauses.specs.Problem.{ClauseProblem}
 use Rattle.req_keys.specs.Key.{PositionSet}
 use Rattle.req_keys.specs.Order.{key_eq}
 use Rattle.req_keys.specs.declared.verdict.Verdict.{Verdict}
@@ -22,6 +23,11 @@ pub record World : Type 0 where
   pub plan : JobPlan
   pub told : Told
   pub board : Board
+
+-- a world on a problem, which is what contracts see of the struct `World`
+pub record WorldOn : Type 0 where
+  pub problem : ClauseProblem
+  pub world : World
 
 -- nothing is told, and nothing stands on the board
 abbrev pub new_world : JobPlan → ℕ → ℕ → World
