@@ -1,0 +1,9 @@
+pub mod StandingEntries
+pub mod LiveEntries
+pub mod CarriedOrders
+pub mod RoundTurns
+pub mod NewBoards
+pub mod TakenEntries
+pub mod AskedKeys
+pub mod ServedTurns
+pub mod Tested

@@ -1,0 +1,3 @@
+-- What serves private functions.
+pub mod Carrying
+pub mod Staying
