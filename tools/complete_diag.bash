@@ -20,7 +20,7 @@ _diag_words() {
                 *)
                     # each option once
                     used=" ${COMP_WORDS[*]:4:COMP_CWORD-4} "
-                    for option in --allowance --rungs --list --ahead --certify; do
+                    for option in --allowance --rungs --list --ahead --workers --certify; do
                         [[ "$used" == *" $option "* ]] || COMPREPLY+=("$option")
                     done
                     mapfile -t COMPREPLY < <(compgen -W "${COMPREPLY[*]}" -- "$word")

@@ -12,7 +12,7 @@ use Rattle.std.proofs.lemmas.Slice.Eq.{bytes_eq-Decides}
 use Rattle.command_line.specs.Numbers.{number_of}
 use Rattle.command_line.specs.declared.command.What.{What}
 use Rattle.command_line.specs.declared.command.What.TheVariants as kind
-use Rattle.command_line.specs.Words.{Settings, Request, Diagnose, Verify, Generate, verification_of, Ahead, Certify, ahead_of, certify_of, IsDrawn, diagnosis_of, drawn_of, generation_of, may_be_drawn, what_of, word_of, names_a_file, Choice, Allowance, Rungs, Listing, words_of, may_be_chosen, allowance_of, rungs_of, list_of, AreOptions, Says, Chosen, nothing_chosen, chosen_with, choice_of, chosen_by, chosen_from, settings_of, request_of, WordsSayOneRequest}
+use Rattle.command_line.specs.Words.{Settings, Request, Diagnose, Verify, Generate, verification_of, Ahead, Workers, Certify, ahead_of, workers_of, certify_of, IsDrawn, diagnosis_of, drawn_of, generation_of, may_be_drawn, what_of, word_of, names_a_file, Choice, Allowance, Rungs, Listing, words_of, may_be_chosen, allowance_of, rungs_of, list_of, AreOptions, Says, Chosen, nothing_chosen, chosen_with, choice_of, chosen_by, chosen_from, settings_of, request_of, WordsSayOneRequest}
 use Rattle.command_line.proofs.NumbersLemmas.{number_says, number_decimal}
 
 -- what is chosen, as a list
@@ -27,6 +27,7 @@ record Adds (before now : Chosen) (choices : List Choice) : Type 0 where
   rungs : as_list now.rungs ≡ as_list before.rungs ++ filter_map rungs_of choices
   list : as_list now.list ≡ as_list before.list ++ filter_map list_of choices
   ahead : as_list now.ahead ≡ as_list before.ahead ++ filter_map ahead_of choices
+  workers : as_list now.workers ≡ as_list before.workers ++ filter_map workers_of choices
   certify : as_list now.certify ≡ as_list before.certify ++ filter_map certify_of choices
 
 -- ---- tests
@@ -62,13 +63,14 @@ listed_first : {X : Type 0} (chosen : Option X) (all : List X) → as_list chose
 listed_first None all e = (subst (λ l. length l ≤ 1) e (omega arith), subst (λ l. None ≡ slice_get l 0) e refl)
 listed_first (Some n) all e = (subst (λ l. length l ≤ 1) e (omega arith), subst (λ l. Some n ≡ slice_get l 0) e refl)
 
-same_chosen : (x y : Chosen) → x.allowance ≡ y.allowance → x.rungs ≡ y.rungs → x.list ≡ y.list → x.ahead ≡ y.ahead → x.certify ≡ y.certify → x ≡ y
-same_chosen x y a r l h c =
-    subst (λ (o : Option ℕ). x ≡ (record { allowance = o; rungs = y.rungs; list = y.list; ahead = y.ahead; certify = y.certify })) a
-    (subst (λ (o : Option ℕ). x ≡ (record { allowance = x.allowance; rungs = o; list = y.list; ahead = y.ahead; certify = y.certify })) r
-    (subst (λ (o : Option ℕ). x ≡ (record { allowance = x.allowance; rungs = x.rungs; list = o; ahead = y.ahead; certify = y.certify })) l
-    (subst (λ (o : Option ℕ). x ≡ (record { allowance = x.allowance; rungs = x.rungs; list = x.list; ahead = o; certify = y.certify })) h
-    (subst (λ (o : Option Bool). x ≡ (record { allowance = x.allowance; rungs = x.rungs; list = x.list; ahead = x.ahead; certify = o })) c refl))))
+same_chosen : (x y : Chosen) → x.allowance ≡ y.allowance → x.rungs ≡ y.rungs → x.list ≡ y.list → x.ahead ≡ y.ahead → x.workers ≡ y.workers → x.certify ≡ y.certify → x ≡ y
+same_chosen x y a r l h w c =
+    subst (λ (o : Option ℕ). x ≡ (record { allowance = o; rungs = y.rungs; list = y.list; ahead = y.ahead; workers = y.workers; certify = y.certify })) a
+    (subst (λ (o : Option ℕ). x ≡ (record { allowance = x.allowance; rungs = o; list = y.list; ahead = y.ahead; workers = y.workers; certify = y.certify })) r
+    (subst (λ (o : Option ℕ). x ≡ (record { allowance = x.allowance; rungs = x.rungs; list = o; ahead = y.ahead; workers = y.workers; certify = y.certify })) l
+    (subst (λ (o : Option ℕ). x ≡ (record { allowance = x.allowance; rungs = x.rungs; list = x.list; ahead = o; workers = y.workers; certify = y.certify })) h
+    (subst (λ (o : Option ℕ). x ≡ (record { allowance = x.allowance; rungs = x.rungs; list = x.list; ahead = x.ahead; workers = o; certify = y.certify })) w
+    (subst (λ (o : Option Bool). x ≡ (record { allowance = x.allowance; rungs = x.rungs; list = x.list; ahead = x.ahead; workers = x.workers; certify = o })) c refl)))))
 
 -- ---- one option
 
@@ -78,17 +80,18 @@ named name word value made choice p words e =
     subst (λ (c : Choice). words_of c ≡ name ∷ decimal value ∷ []) (same_Some made choice e)
     (words ∙ ap (λ (n : List ℕ). n ∷ decimal value ∷ []) (sym ((bytes_eq-Decides name word).0 p)))
 
-choice_by : (name : List ℕ) (value : ℕ) (choice : Choice) (a b c d : Bool) → bytes_eq name (codes "--allowance") ≡ a → bytes_eq name (codes "--rungs") ≡ b → bytes_eq name (codes "--list") ≡ c → bytes_eq name (codes "--ahead") ≡ d → choice_of name value ≡ Some choice → words_of choice ≡ name ∷ decimal value ∷ []
-choice_by name value choice true b c d p q r s e = named name (codes "--allowance") value (Allowance value) choice p refl (rw p at e)
-choice_by name value choice false true c d p q r s e = named name (codes "--rungs") value (Rungs value) choice q refl (rw (p, q) at e)
-choice_by name value choice false false true d p q r s e = named name (codes "--list") value (Listing value) choice r refl (rw (p, q, r) at e)
-choice_by name value choice false false false true p q r s e = named name (codes "--ahead") value (Ahead value) choice s refl (rw (p, q, r, s) at e)
-choice_by name value choice false false false false p q r s e = let none : None ≡ Some choice = rw (p, q, r, s) at e in absurd (none-some choice none)
+choice_by : (name : List ℕ) (value : ℕ) (choice : Choice) (a b c d e : Bool) → bytes_eq name (codes "--allowance") ≡ a → bytes_eq name (codes "--rungs") ≡ b → bytes_eq name (codes "--list") ≡ c → bytes_eq name (codes "--ahead") ≡ d → bytes_eq name (codes "--workers") ≡ e → choice_of name value ≡ Some choice → words_of choice ≡ name ∷ decimal value ∷ []
+choice_by name value choice true b c d e p q r s t is = named name (codes "--allowance") value (Allowance value) choice p refl (rw p at is)
+choice_by name value choice false true c d e p q r s t is = named name (codes "--rungs") value (Rungs value) choice q refl (rw (p, q) at is)
+choice_by name value choice false false true d e p q r s t is = named name (codes "--list") value (Listing value) choice r refl (rw (p, q, r) at is)
+choice_by name value choice false false false true e p q r s t is = named name (codes "--ahead") value (Ahead value) choice s refl (rw (p, q, r, s) at is)
+choice_by name value choice false false false false true p q r s t is = named name (codes "--workers") value (Workers value) choice t refl (rw (p, q, r, s, t) at is)
+choice_by name value choice false false false false false p q r s t is = let none : None ≡ Some choice = rw (p, q, r, s, t) at is in absurd (none-some choice none)
 
 -- the words of the option that a word and a number are
 choice_says : (name word : List ℕ) (value : ℕ) (choice : Choice) → word ≡ decimal value → choice_of name value ≡ Some choice → words_of choice ≡ name ∷ word ∷ []
 choice_says name word value choice w e =
-    choice_by name value choice (bytes_eq name (codes "--allowance")) (bytes_eq name (codes "--rungs")) (bytes_eq name (codes "--list")) (bytes_eq name (codes "--ahead")) refl refl refl refl e
+    choice_by name value choice (bytes_eq name (codes "--allowance")) (bytes_eq name (codes "--rungs")) (bytes_eq name (codes "--list")) (bytes_eq name (codes "--ahead")) (bytes_eq name (codes "--workers")) refl refl refl refl refl e
     ∙ ap (λ (d : List ℕ). name ∷ d ∷ []) (sym w)
 
 -- an option with a number isn't the one without
@@ -121,6 +124,7 @@ one_added before now (Allowance most) e =
       rungs = stays before.rungs now.rungs (ap (λ (c : Chosen). c.rungs) a.2);
       list = stays before.list now.list (ap (λ (c : Chosen). c.list) a.2);
       ahead = stays before.ahead now.ahead (ap (λ (c : Chosen). c.ahead) a.2);
+      workers = stays before.workers now.workers (ap (λ (c : Chosen). c.workers) a.2);
       certify = stays before.certify now.certify (ap (λ (c : Chosen). c.certify) a.2);
     }
 one_added before now (Rungs more) e =
@@ -131,6 +135,7 @@ one_added before now (Rungs more) e =
       rungs = joins before.rungs more now.rungs a.1 (ap (λ (c : Chosen). c.rungs) a.2);
       list = stays before.list now.list (ap (λ (c : Chosen). c.list) a.2);
       ahead = stays before.ahead now.ahead (ap (λ (c : Chosen). c.ahead) a.2);
+      workers = stays before.workers now.workers (ap (λ (c : Chosen). c.workers) a.2);
       certify = stays before.certify now.certify (ap (λ (c : Chosen). c.certify) a.2);
     }
 one_added before now (Listing most) e =
@@ -141,6 +146,7 @@ one_added before now (Listing most) e =
       rungs = stays before.rungs now.rungs (ap (λ (c : Chosen). c.rungs) a.2);
       list = joins before.list most now.list a.1 (ap (λ (c : Chosen). c.list) a.2);
       ahead = stays before.ahead now.ahead (ap (λ (c : Chosen). c.ahead) a.2);
+      workers = stays before.workers now.workers (ap (λ (c : Chosen). c.workers) a.2);
       certify = stays before.certify now.certify (ap (λ (c : Chosen). c.certify) a.2);
     }
 one_added before now (Ahead answers) e =
@@ -151,6 +157,18 @@ one_added before now (Ahead answers) e =
       rungs = stays before.rungs now.rungs (ap (λ (c : Chosen). c.rungs) a.2);
       list = stays before.list now.list (ap (λ (c : Chosen). c.list) a.2);
       ahead = joins before.ahead answers now.ahead a.1 (ap (λ (c : Chosen). c.ahead) a.2);
+      workers = stays before.workers now.workers (ap (λ (c : Chosen). c.workers) a.2);
+      certify = stays before.certify now.certify (ap (λ (c : Chosen). c.certify) a.2);
+    }
+one_added before now (Workers threads) e =
+    let a = taken before.workers (may_be_chosen (Workers threads)) (record before { workers = Some threads }) now e in
+    record {
+      allowed = rw a.0 refl;
+      allowance = stays before.allowance now.allowance (ap (λ (c : Chosen). c.allowance) a.2);
+      rungs = stays before.rungs now.rungs (ap (λ (c : Chosen). c.rungs) a.2);
+      list = stays before.list now.list (ap (λ (c : Chosen). c.list) a.2);
+      ahead = stays before.ahead now.ahead (ap (λ (c : Chosen). c.ahead) a.2);
+      workers = joins before.workers threads now.workers a.1 (ap (λ (c : Chosen). c.workers) a.2);
       certify = stays before.certify now.certify (ap (λ (c : Chosen). c.certify) a.2);
     }
 one_added before now Certify e =
@@ -161,6 +179,7 @@ one_added before now Certify e =
       rungs = stays before.rungs now.rungs (ap (λ (c : Chosen). c.rungs) a.2);
       list = stays before.list now.list (ap (λ (c : Chosen). c.list) a.2);
       ahead = stays before.ahead now.ahead (ap (λ (c : Chosen). c.ahead) a.2);
+      workers = stays before.workers now.workers (ap (λ (c : Chosen). c.workers) a.2);
       certify = joins before.certify true now.certify a.1 (ap (λ (c : Chosen). c.certify) a.2);
     }
 
@@ -185,6 +204,7 @@ adds_more before between now choice choices a b =
       rungs = both_parts before.rungs between.rungs now.rungs rungs_of choice choices a.rungs b.rungs;
       list = both_parts before.list between.list now.list list_of choice choices a.list b.list;
       ahead = both_parts before.ahead between.ahead now.ahead ahead_of choice choices a.ahead b.ahead;
+      workers = both_parts before.workers between.workers now.workers workers_of choice choices a.workers b.workers;
       certify = both_parts before.certify between.certify now.certify certify_of choice choices a.certify b.certify;
     }
 
@@ -234,6 +254,7 @@ nothing_added before now is = (
     rungs = stays before.rungs now.rungs (ap (λ (c : Chosen). c.rungs) is);
     list = stays before.list now.list (ap (λ (c : Chosen). c.list) is);
     ahead = stays before.ahead now.ahead (ap (λ (c : Chosen). c.ahead) is);
+    workers = stays before.workers now.workers (ap (λ (c : Chosen). c.workers) is);
     certify = stays before.certify now.certify (ap (λ (c : Chosen). c.certify) is);
   },
 )
@@ -293,6 +314,7 @@ complete before now [] a =
     (unchanged before.rungs now.rungs a.rungs)
     (unchanged before.list now.list a.list)
     (unchanged before.ahead now.ahead a.ahead)
+    (unchanged before.workers now.workers a.workers)
     (unchanged before.certify now.certify a.certify))
 complete before now (Allowance most ∷ choices) a =
     let may = both (may_be_chosen (Allowance most)) (list_all may_be_chosen choices) a.allowed in
@@ -300,7 +322,7 @@ complete before now (Allowance most ∷ choices) a =
     let small = leb-true most 1099511627776 may.0 in
     let between : Chosen = record before { allowance = Some most } in
     let later : chosen_from between (flat_map words_of choices) ≡ Some now =
-    complete between now choices (record { allowed = may.1; allowance = rw new at a.allowance; rungs = a.rungs; list = a.list; ahead = a.ahead; certify = a.certify }) in
+    complete between now choices (record { allowed = may.1; allowance = rw new at a.allowance; rungs = a.rungs; list = a.list; ahead = a.ahead; workers = a.workers; certify = a.certify }) in
     rw (number_decimal most (omega arith), new, may.0) later
 complete before now (Rungs more ∷ choices) a =
     let may = both (may_be_chosen (Rungs more)) (list_all may_be_chosen choices) a.allowed in
@@ -308,7 +330,7 @@ complete before now (Rungs more ∷ choices) a =
     let small = leb-true more 4 may.0 in
     let between : Chosen = record before { rungs = Some more } in
     let later : chosen_from between (flat_map words_of choices) ≡ Some now =
-    complete between now choices (record { allowed = may.1; allowance = a.allowance; rungs = rw new at a.rungs; list = a.list; ahead = a.ahead; certify = a.certify }) in
+    complete between now choices (record { allowed = may.1; allowance = a.allowance; rungs = rw new at a.rungs; list = a.list; ahead = a.ahead; workers = a.workers; certify = a.certify }) in
     rw (number_decimal more (omega arith), new, may.0) later
 complete before now (Listing most ∷ choices) a =
     let may = both (may_be_chosen (Listing most)) (list_all may_be_chosen choices) a.allowed in
@@ -316,7 +338,7 @@ complete before now (Listing most ∷ choices) a =
     let small = leb-true most 4096 may.0 in
     let between : Chosen = record before { list = Some most } in
     let later : chosen_from between (flat_map words_of choices) ≡ Some now =
-    complete between now choices (record { allowed = may.1; allowance = a.allowance; rungs = a.rungs; list = rw new at a.list; ahead = a.ahead; certify = a.certify }) in
+    complete between now choices (record { allowed = may.1; allowance = a.allowance; rungs = a.rungs; list = rw new at a.list; ahead = a.ahead; workers = a.workers; certify = a.certify }) in
     rw (number_decimal most (omega arith), new, may.0) later
 complete before now (Ahead answers ∷ choices) a =
     let may = both (may_be_chosen (Ahead answers)) (list_all may_be_chosen choices) a.allowed in
@@ -324,26 +346,35 @@ complete before now (Ahead answers ∷ choices) a =
     let small = leb-true answers 6 may.0 in
     let between : Chosen = record before { ahead = Some answers } in
     let later : chosen_from between (flat_map words_of choices) ≡ Some now =
-    complete between now choices (record { allowed = may.1; allowance = a.allowance; rungs = a.rungs; list = a.list; ahead = rw new at a.ahead; certify = a.certify }) in
+    complete between now choices (record { allowed = may.1; allowance = a.allowance; rungs = a.rungs; list = a.list; ahead = rw new at a.ahead; workers = a.workers; certify = a.certify }) in
     rw (number_decimal answers (omega arith), new, may.0) later
+complete before now (Workers threads ∷ choices) a =
+    let may = both (may_be_chosen (Workers threads)) (list_all may_be_chosen choices) a.allowed in
+    let new = room now.workers before.workers threads (filter_map workers_of choices) a.workers in
+    let small = leb-true threads 64 may.0 in
+    let between : Chosen = record before { workers = Some threads } in
+    let later : chosen_from between (flat_map words_of choices) ≡ Some now =
+    complete between now choices (record { allowed = may.1; allowance = a.allowance; rungs = a.rungs; list = a.list; ahead = a.ahead; workers = rw new at a.workers; certify = a.certify }) in
+    rw (number_decimal threads (omega arith), new, may.0) later
 complete before now (Certify ∷ choices) a =
     let may = both (may_be_chosen Certify) (list_all may_be_chosen choices) a.allowed in
     let new = room now.certify before.certify true (filter_map certify_of choices) a.certify in
     let between : Chosen = record before { certify = Some true } in
     let later : chosen_from between (flat_map words_of choices) ≡ Some now =
-    complete between now choices (record { allowed = may.1; allowance = a.allowance; rungs = a.rungs; list = a.list; ahead = a.ahead; certify = rw new at a.certify }) in
+    complete between now choices (record { allowed = may.1; allowance = a.allowance; rungs = a.rungs; list = a.list; ahead = a.ahead; workers = a.workers; certify = rw new at a.certify }) in
     let with : chosen_with before Certify ≡ Some between = rw new refl in
     certified before between (codes "--certify") (flat_map words_of choices) refl with ∙ later
 
 -- ---- the whole
 
-same_settings : (x y : Settings) → x.allowance ≡ y.allowance → x.rungs ≡ y.rungs → x.list ≡ y.list → x.ahead ≡ y.ahead → x.certify ≡ y.certify → x ≡ y
-same_settings x y a r l h c =
-    subst (λ (o : ℕ). x ≡ (record { allowance = o; rungs = y.rungs; list = y.list; ahead = y.ahead; certify = y.certify })) a
-    (subst (λ (o : ℕ). x ≡ (record { allowance = x.allowance; rungs = o; list = y.list; ahead = y.ahead; certify = y.certify })) r
-    (subst (λ (o : Option ℕ). x ≡ (record { allowance = x.allowance; rungs = x.rungs; list = o; ahead = y.ahead; certify = y.certify })) l
-    (subst (λ (o : ℕ). x ≡ (record { allowance = x.allowance; rungs = x.rungs; list = x.list; ahead = o; certify = y.certify })) h
-    (subst (λ (o : Bool). x ≡ (record { allowance = x.allowance; rungs = x.rungs; list = x.list; ahead = x.ahead; certify = o })) c refl))))
+same_settings : (x y : Settings) → x.allowance ≡ y.allowance → x.rungs ≡ y.rungs → x.list ≡ y.list → x.ahead ≡ y.ahead → x.workers ≡ y.workers → x.certify ≡ y.certify → x ≡ y
+same_settings x y a r l h w c =
+    subst (λ (o : ℕ). x ≡ (record { allowance = o; rungs = y.rungs; list = y.list; ahead = y.ahead; workers = y.workers; certify = y.certify })) a
+    (subst (λ (o : ℕ). x ≡ (record { allowance = x.allowance; rungs = o; list = y.list; ahead = y.ahead; workers = y.workers; certify = y.certify })) r
+    (subst (λ (o : Option ℕ). x ≡ (record { allowance = x.allowance; rungs = x.rungs; list = o; ahead = y.ahead; workers = y.workers; certify = y.certify })) l
+    (subst (λ (o : ℕ). x ≡ (record { allowance = x.allowance; rungs = x.rungs; list = x.list; ahead = o; workers = y.workers; certify = y.certify })) h
+    (subst (λ (o : ℕ). x ≡ (record { allowance = x.allowance; rungs = x.rungs; list = x.list; ahead = x.ahead; workers = o; certify = y.certify })) w
+    (subst (λ (o : Bool). x ≡ (record { allowance = x.allowance; rungs = x.rungs; list = x.list; ahead = x.ahead; workers = x.workers; certify = o })) c refl)))))
 
 options_found : (options : List (List ℕ)) (settings : Settings) → AreOptions options settings → (chosen : Chosen) × (chosen_from nothing_chosen options ≡ Some chosen) × (settings ≡ settings_of chosen)
 options_found options settings a =
@@ -351,21 +382,24 @@ options_found options settings a =
     let more = filter_map rungs_of a.choices in
     let listed = filter_map list_of a.choices in
     let guessed = filter_map ahead_of a.choices in
+    let threads = filter_map workers_of a.choices in
     let shown = filter_map certify_of a.choices in
-    let chosen : Chosen = record { allowance = slice_get some 0; rungs = slice_get more 0; list = slice_get listed 0; ahead = slice_get guessed 0; certify = slice_get shown 0 } in
+    let chosen : Chosen = record { allowance = slice_get some 0; rungs = slice_get more 0; list = slice_get listed 0; ahead = slice_get guessed 0; workers = slice_get threads 0; certify = slice_get shown 0 } in
     let one = first_alone some a.one_allowance in
     let two = first_alone more a.one_rungs in
     let four = first_alone guessed a.one_ahead in
     let five = first_alone shown a.one_certify in
+    let six = first_alone threads a.one_workers in
     let found =
-    complete nothing_chosen chosen a.choices (record { allowed = a.allowed; allowance = one; rungs = two; list = first_alone listed a.one_list; ahead = four; certify = five }) in
+    complete nothing_chosen chosen a.choices (record { allowed = a.allowed; allowance = one; rungs = two; list = first_alone listed a.one_list; ahead = four; workers = six; certify = five }) in
     let first = alone_first (slice_get some 0) some 10000 one in
     let second = alone_first (slice_get more 0) more 0 two in
     let fourth = alone_first (slice_get guessed 0) guessed 0 four in
-    let fifth = alone_first (slice_get shown 0) shown false five in (
+    let fifth = alone_first (slice_get shown 0) shown false five in
+    let sixth = alone_first (slice_get threads 0) threads 0 six in (
       chosen,
       ap (chosen_from nothing_chosen) a.said ∙ found,
-      same_settings settings (settings_of chosen) (a.allowance ∙ sym first.1) (a.rungs ∙ sym second.1) a.list (a.ahead ∙ sym fourth.1) (a.certify ∙ sym fifth.1),
+      same_settings settings (settings_of chosen) (a.allowance ∙ sym first.1) (a.rungs ∙ sym second.1) a.list (a.ahead ∙ sym fourth.1) (a.workers ∙ sym sixth.1) (a.certify ∙ sym fifth.1),
     )
 
 options_are : (options : List (List ℕ)) (chosen : Chosen) → chosen_from nothing_chosen options ≡ Some chosen → AreOptions options (settings_of chosen)
@@ -377,6 +411,7 @@ options_are options chosen e =
     let three = listed_first chosen.list (filter_map list_of made.0) adds.list in
     let four = alone_first chosen.ahead (filter_map ahead_of made.0) 0 adds.ahead in
     let five = alone_first chosen.certify (filter_map certify_of made.0) false adds.certify in
+    let six = alone_first chosen.workers (filter_map workers_of made.0) 0 adds.workers in
     record {
       choices = made.0;
       said = made.1;
@@ -385,11 +420,13 @@ options_are options chosen e =
       one_rungs = two.0;
       one_list = three.0;
       one_ahead = four.0;
+      one_workers = six.0;
       one_certify = five.0;
       allowance = one.1;
       rungs = two.1;
       list = three.1;
       ahead = four.1;
+      workers = six.1;
       certify = five.1;
     }
 

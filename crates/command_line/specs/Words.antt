@@ -1,5 +1,5 @@
 -- The grammar of the command line (own to this project): the lists of words that a run may be started with.
-use Rattle.std.specs.Prelude.{◌≡◌, ◌↔◌, ℕ, ◌≤◌, ◌<◌, ◌^◌, nat_le, Bool, true, false, not, ◌&&◌, ◌==◌, IsTrue, List, [], ◌∷◌, length, filter_map, slice_get, slice_index_or, IfSome, Option, Some, None, unwrap_or, codes, if◌then◌else◌}
+use Rattle.std.specs.Prelude.{◌≡◌, ◌↔◌, ℕ, ◌≤◌, ◌<◌, ◌^◌, nat_le, nat_lt, Bool, true, false, not, ◌&&◌, ◌==◌, IsTrue, List, [], ◌∷◌, length, filter_map, slice_get, slice_index_or, IfSome, Option, Some, None, unwrap_or, codes, if◌then◌else◌}
 use Rattle.std.specs.List.{flat_map, list_all}
 use Rattle.std.specs.Option.{option_map, option_and_then, is_none}
 use Rattle.std.specs.Str.{bytes_eq}
@@ -18,6 +18,8 @@ pub record Settings : Type 0 where
   pub list : Option ℕ
   -- how many answers are guessed ahead
   pub ahead : ℕ
+  -- how many threads make checks beside the main one
+  pub workers : ℕ
   -- whether a certificate follows the report
   pub certify : Bool
 
@@ -27,6 +29,7 @@ pub record AreAllowed (settings : Settings) : Type 0 where
   pub rungs : settings.rungs ≤ 4
   pub list : IfSome settings.list (λ size. size ≤ 4096)
   pub ahead : settings.ahead ≤ 6
+  pub workers : settings.workers ≤ 64
 
 -- the seeds and sizes that texts may be generated from
 pub record IsDrawn (seed size : ℕ) : Type 0 where
@@ -62,6 +65,7 @@ pub data Choice : Type 0 where
   Rungs : (more : ℕ) → Choice
   Listing : (most : ℕ) → Choice
   Ahead : (answers : ℕ) → Choice
+  Workers : (threads : ℕ) → Choice
   Certify : Choice
 
 -- the words of an option
@@ -70,6 +74,7 @@ words_of (Allowance most) = codes "--allowance" ∷ decimal most ∷ []
 words_of (Rungs more) = codes "--rungs" ∷ decimal more ∷ []
 words_of (Listing most) = codes "--list" ∷ decimal most ∷ []
 words_of (Ahead answers) = codes "--ahead" ∷ decimal answers ∷ []
+words_of (Workers threads) = codes "--workers" ∷ decimal threads ∷ []
 words_of Certify = codes "--certify" ∷ []
 
 -- the value is one that may be chosen
@@ -78,6 +83,7 @@ may_be_chosen (Allowance most) = nat_le most 1099511627776
 may_be_chosen (Rungs more) = nat_le more 4
 may_be_chosen (Listing most) = nat_le most 4096
 may_be_chosen (Ahead answers) = nat_le answers 6
+may_be_chosen (Workers threads) = nat_le threads 64
 may_be_chosen Certify = true
 
 abbrev pub allowance_of : Choice → Option ℕ
@@ -85,6 +91,7 @@ allowance_of (Allowance most) = Some most
 allowance_of (Rungs more) = None
 allowance_of (Listing most) = None
 allowance_of (Ahead answers) = None
+allowance_of (Workers threads) = None
 allowance_of Certify = None
 
 abbrev pub rungs_of : Choice → Option ℕ
@@ -92,6 +99,7 @@ rungs_of (Allowance most) = None
 rungs_of (Rungs more) = Some more
 rungs_of (Listing most) = None
 rungs_of (Ahead answers) = None
+rungs_of (Workers threads) = None
 rungs_of Certify = None
 
 abbrev pub list_of : Choice → Option ℕ
@@ -99,6 +107,7 @@ list_of (Allowance most) = None
 list_of (Rungs more) = None
 list_of (Listing most) = Some most
 list_of (Ahead answers) = None
+list_of (Workers threads) = None
 list_of Certify = None
 
 abbrev pub ahead_of : Choice → Option ℕ
@@ -106,17 +115,27 @@ ahead_of (Allowance most) = None
 ahead_of (Rungs more) = None
 ahead_of (Listing most) = None
 ahead_of (Ahead answers) = Some answers
+ahead_of (Workers threads) = None
 ahead_of Certify = None
+
+abbrev pub workers_of : Choice → Option ℕ
+workers_of (Allowance most) = None
+workers_of (Rungs more) = None
+workers_of (Listing most) = None
+workers_of (Ahead answers) = None
+workers_of (Workers threads) = Some threads
+workers_of Certify = None
 
 abbrev pub certify_of : Choice → Option Bool
 certify_of (Allowance most) = None
 certify_of (Rungs more) = None
 certify_of (Listing most) = None
 certify_of (Ahead answers) = None
+certify_of (Workers threads) = None
 certify_of Certify = Some true
 
 -- These words are options in any order, each at most once, and set this: without its option an allowance is 10,000, there are
--- no more attempts, nothing is listed or guessed, and no certificate follows.
+-- no more attempts, nothing is listed or guessed, one thread makes all checks, and no certificate follows.
 pub record AreOptions (words : List (List ℕ)) (settings : Settings) : Type 0 where
   pub choices : List Choice
   pub said : words ≡ flat_map words_of choices
@@ -125,11 +144,13 @@ pub record AreOptions (words : List (List ℕ)) (settings : Settings) : Type 0 w
   pub one_rungs : length (filter_map rungs_of choices) ≤ 1
   pub one_list : length (filter_map list_of choices) ≤ 1
   pub one_ahead : length (filter_map ahead_of choices) ≤ 1
+  pub one_workers : length (filter_map workers_of choices) ≤ 1
   pub one_certify : length (filter_map certify_of choices) ≤ 1
   pub allowance : settings.allowance ≡ slice_index_or (filter_map allowance_of choices) 0 10000
   pub rungs : settings.rungs ≡ slice_index_or (filter_map rungs_of choices) 0 0
   pub list : settings.list ≡ slice_get (filter_map list_of choices) 0
   pub ahead : settings.ahead ≡ slice_index_or (filter_map ahead_of choices) 0 0
+  pub workers : settings.workers ≡ slice_index_or (filter_map workers_of choices) 0 0
   pub certify : settings.certify ≡ slice_index_or (filter_map certify_of choices) 0 false
 
 -- ---- the whole
@@ -157,10 +178,11 @@ pub record Chosen : Type 0 where
   pub rungs : Option ℕ
   pub list : Option ℕ
   pub ahead : Option ℕ
+  pub workers : Option ℕ
   pub certify : Option Bool
 
 abbrev pub nothing_chosen : Chosen
-nothing_chosen = record { allowance = None; rungs = None; list = None; ahead = None; certify = None }
+nothing_chosen = record { allowance = None; rungs = None; list = None; ahead = None; workers = None; certify = None }
 
 -- with one more option, which must be allowed and new
 abbrev pub chosen_with : Chosen → Choice → Option Chosen
@@ -172,6 +194,8 @@ chosen_with chosen (Listing most) =
     if is_none chosen.list && may_be_chosen (Listing most) then Some (record chosen { list = Some most }) else None
 chosen_with chosen (Ahead answers) =
     if is_none chosen.ahead && may_be_chosen (Ahead answers) then Some (record chosen { ahead = Some answers }) else None
+chosen_with chosen (Workers threads) =
+    if is_none chosen.workers && may_be_chosen (Workers threads) then Some (record chosen { workers = Some threads }) else None
 chosen_with chosen Certify = if is_none chosen.certify && may_be_chosen Certify then Some (record chosen { certify = Some true }) else None
 
 -- the option of this name and number
@@ -179,7 +203,8 @@ abbrev pub choice_of : List ℕ → ℕ → Option Choice
 choice_of name value =
     if bytes_eq name (codes "--allowance") then Some (Allowance value)
     else (if bytes_eq name (codes "--rungs") then Some (Rungs value)
-    else (if bytes_eq name (codes "--list") then Some (Listing value) else (if bytes_eq name (codes "--ahead") then Some (Ahead value) else None)))
+    else (if bytes_eq name (codes "--list") then Some (Listing value)
+    else (if bytes_eq name (codes "--ahead") then Some (Ahead value) else (if bytes_eq name (codes "--workers") then Some (Workers value) else None))))
 
 -- with the option that these two words are
 abbrev pub chosen_by : Chosen → List ℕ → List ℕ → Option Chosen
@@ -199,6 +224,7 @@ settings_of chosen = record {
   rungs = unwrap_or chosen.rungs 0;
   list = chosen.list;
   ahead = unwrap_or chosen.ahead 0;
+  workers = unwrap_or chosen.workers 0;
   certify = unwrap_or chosen.certify false;
 }
 
@@ -246,6 +272,13 @@ request_of [] = None
 request_of (verb ∷ rest) =
     if bytes_eq verb (codes "diagnose") then diagnosis_of rest
     else (if bytes_eq verb (codes "verify") then verification_of rest else (if bytes_eq verb (codes "generate") then generation_of rest else None))
+
+-- advice is asked for that other threads help with
+abbrev pub asks_workers : Option Request → Bool
+asks_workers None = false
+asks_workers (Some (Diagnose model config settings)) = nat_lt 0 settings.workers
+asks_workers (Some (Verify model config certificate)) = false
+asks_workers (Some (Generate seed size what)) = false
 
 -- a generated text is asked for
 abbrev pub Generates : Option Request → Type 0

@@ -1,7 +1,7 @@
 -- Worked examples of the grammar. Each computes.
 use Rattle.std.specs.Prelude.{◌≡◌, ℕ, Option, true, false, List, [], ◌∷◌, Some, None, codes, refl}
 use Rattle.command_line.specs.Numbers.{number_of}
-use Rattle.command_line.specs.Words.{Request, Settings, Diagnose, Verify, Generate, request_of}
+use Rattle.command_line.specs.Words.{Request, Settings, Diagnose, Verify, Generate, asks_workers, request_of}
 use Rattle.command_line.specs.declared.command.What.TheVariants as what
 
 -- `diagnose m c` and more words
@@ -9,10 +9,10 @@ abbrev with : List (List ℕ) → List (List ℕ)
 with options = codes "diagnose" ∷ codes "m" ∷ codes "c" ∷ options
 
 abbrev set : ℕ → ℕ → Option Request
-set allowance rungs = Some (Diagnose (codes "m") (codes "c") (record { allowance = allowance; rungs = rungs; list = None; ahead = 0; certify = false }))
+set allowance rungs = Some (Diagnose (codes "m") (codes "c") (record { allowance = allowance; rungs = rungs; list = None; ahead = 0; workers = 0; certify = false }))
 
 abbrev plain : Settings
-plain = record { allowance = 10000; rungs = 0; list = None; ahead = 0; certify = false }
+plain = record { allowance = 10000; rungs = 0; list = None; ahead = 0; workers = 0; certify = false }
 
 abbrev asked : Settings → Option Request
 asked settings = Some (Diagnose (codes "m") (codes "c") settings)
@@ -48,6 +48,18 @@ most_ahead = refl
 pub too_far_ahead : request_of (with (codes "--ahead" ∷ codes "7" ∷ [])) ≡ None
 too_far_ahead = refl
 
+pub most_workers : request_of (with (codes "--workers" ∷ codes "64" ∷ codes "--ahead" ∷ codes "1" ∷ [])) ≡ asked (record plain { ahead = 1; workers = 64 })
+most_workers = refl
+
+pub too_many_workers : request_of (with (codes "--workers" ∷ codes "65" ∷ [])) ≡ None
+too_many_workers = refl
+
+pub workers_asked : asks_workers (request_of (with (codes "--workers" ∷ codes "1" ∷ []))) ≡ true
+workers_asked = refl
+
+pub no_workers_asked : asks_workers (request_of (with (codes "--workers" ∷ codes "0" ∷ []))) ≡ false
+no_workers_asked = refl
+
 -- the option without a number, at the end, in front and between
 pub certify_alone : request_of (with (codes "--certify" ∷ [])) ≡ asked (record plain { certify = true })
 certify_alone = refl
@@ -71,7 +83,7 @@ option_twice = refl
 pub value_missing : request_of (with (codes "--rungs" ∷ [])) ≡ None
 value_missing = refl
 
-pub another_option : request_of (with (codes "--workers" ∷ codes "1" ∷ [])) ≡ None
+pub another_option : request_of (with (codes "--worker" ∷ codes "1" ∷ [])) ≡ None
 another_option = refl
 
 pub option_before_files : request_of (codes "diagnose" ∷ codes "--rungs" ∷ codes "1" ∷ codes "m" ∷ codes "c" ∷ []) ≡ None

@@ -10,13 +10,15 @@ use crate::options::Options;
 /// What a command line asks for.
 #[derive(Clone, Copy, Debug, PartialEq, Eq)]
 pub enum Command<'a> {
-    /// The advice for a configuration of a model, given the names of the two files. So many answers are guessed `ahead`. The
+    /// The advice for a configuration of a model, given the names of the two files. So many `workers`, which are threads beside
+    /// the main one, make checks, and so many answers are guessed `ahead`. The
     /// first attempt of a check may learn `allowance` clauses, and `rungs` more attempts may follow, each with ten times as
     /// many. The minimal diagnoses up to the size `list` are listed, if it is there. Where `certify` says so a certificate
     /// follows the report.
     Diagnose {
         model: &'a str,
         config: &'a str,
+        workers: u32,
         ahead: u8,
         allowance: u64,
         rungs: u8,
@@ -111,6 +113,7 @@ fn diagnosis_of<'a>(words: &'a [String]) -> Option<Command<'a>>
     Some(Command::Diagnose {
         model,
         config,
+        workers: options.workers(),
         ahead: options.ahead(),
         allowance: options.allowance(),
         rungs: options.rungs(),

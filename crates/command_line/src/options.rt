@@ -1,7 +1,7 @@
 //! The options of a command line, in any order and each at most once.
 ghost use Rattle.std.specs.Prelude.{◌≡◌, false, map, option_map, unwrap_or, IfSome};
 ghost use Rattle.std.specs.String.{string_bytes};
-ghost use Rattle.command_line.specs.Words.{Ahead, Allowance, AreAllowed, Certify, Listing, Rungs, chosen_by, chosen_from, chosen_with, nothing_chosen, settings_of};
+ghost use Rattle.command_line.specs.Words.{Ahead, Allowance, AreAllowed, Certify, Listing, Rungs, Workers, chosen_by, chosen_from, chosen_with, nothing_chosen, settings_of};
 ghost use Rattle.command_line.specs.inside.Chosen.{chosen};
 
 use crate::number::number_of;
@@ -18,6 +18,9 @@ const MOST_LISTED: u64 = 4_096;
 /// How many answers may be guessed ahead.
 const MOST_AHEAD: u64 = 6;
 
+/// How many threads may make checks beside the main one.
+const MOST_WORKERS: u64 = 64;
+
 /// What the options read so far choose.
 #[derive(Clone, Copy, Debug)]
 pub struct Options {
@@ -25,6 +28,7 @@ pub struct Options {
     rungs: Option<u8>,
     list: Option<u32>,
     ahead: Option<u8>,
+    workers: Option<u32>,
     certify: Option<bool>,
 }
 
@@ -39,6 +43,7 @@ impl Options {
             rungs: None,
             list: None,
             ahead: None,
+            workers: None,
             certify: None,
         };
         let mut rest = words;
@@ -70,6 +75,8 @@ impl Options {
             self.with_list(number)
         } else if name == "--ahead" {
             self.with_ahead(number)
+        } else if name == "--workers" {
+            self.with_workers(number)
         } else {
             None
         }
@@ -123,6 +130,18 @@ impl Options {
         Some(Options { ahead, ..self })
     }
 
+    fn with_workers(self, threads: u64) -> Option<Options>
+        requires { AreAllowed (settings_of (chosen self)) }
+        ensures allowed { IfSome result (λ options. AreAllowed (settings_of (chosen options))) }
+        ensures chosen { chosen_with (chosen self) (Workers threads) ≡ option_map chosen result }
+    {
+        if self.workers.is_some() || threads > MOST_WORKERS {
+            return None;
+        }
+        let workers = Some(threads as u32);
+        Some(Options { workers, ..self })
+    }
+
     fn with_certify(self) -> Option<Options>
         requires { AreAllowed (settings_of (chosen self)) }
         ensures allowed { IfSome result (λ options. AreAllowed (settings_of (chosen options))) }
@@ -161,6 +180,13 @@ impl Options {
         ensures { result ≡ unwrap_or self.ahead 0 }
     {
         self.ahead.unwrap_or(0)
+    }
+
+    /// How many threads make checks beside the main one.
+    pub fn workers(self) -> u32
+        ensures { result ≡ unwrap_or self.workers 0 }
+    {
+        self.workers.unwrap_or(0)
     }
 
     /// Whether a certificate follows the report.

@@ -22,6 +22,8 @@ fn words_are_read(rt: HostRuntime) -> Result<(), Fail> {
             "--rungs",
             "2",
             "--certify",
+            "--workers",
+            "3",
             "--allowance",
             "70",
         ],
@@ -30,6 +32,7 @@ fn words_are_read(rt: HostRuntime) -> Result<(), Fail> {
     let said = Command::Diagnose {
         model: "m",
         config: "c",
+        workers: 3,
         ahead: 0,
         allowance: 70,
         rungs: 2,

@@ -5,7 +5,7 @@
 mod file_shelf;
 mod out_sink;
 
-use diag_top::{Status, run_alone};
+use diag_top::{OpenGate, Status, run};
 use file_shelf::FileShelf;
 use out_sink::OutSink;
 use std::process::ExitCode;
@@ -15,14 +15,21 @@ fn main(rt: HostRuntime) -> ExitCode {
     let mut shelf = FileShelf::new(rt);
     let mut sink = OutSink::new(rt.stdout());
     let status = match words(&rt) {
-        Ok(words) => run_alone(rt.alloc(), words.as_slice(), &mut shelf, &mut sink),
+        Ok(words) => run(
+            &rt,
+            rt.alloc(),
+            words.as_slice(),
+            &mut shelf,
+            &mut sink,
+            &OpenGate,
+        ),
         // Words that aren't text are no words of the grammar.
         Err(error) if error.kind() == io::ErrorKind::InvalidData => {
-            run_alone(rt.alloc(), &[], &mut shelf, &mut sink)
+            run(&rt, rt.alloc(), &[], &mut shelf, &mut sink, &OpenGate)
         }
-        Err(_) => Some(Status::Memory),
+        Err(_) => Status::Memory,
     };
-    ExitCode::from(status.unwrap_or(Status::Memory).code())
+    ExitCode::from(status.code())
 }
 
 /// The words after the program's name.

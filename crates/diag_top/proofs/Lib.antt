@@ -5,3 +5,4 @@ pub mod JobLaws
 pub mod LinesLemmas
 pub mod AnswerLaws
 pub mod AdviceLaws
+pub mod LimitLaws

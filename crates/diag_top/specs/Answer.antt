@@ -170,7 +170,7 @@ verified certificate model config = Fetch Certificate certificate MOST_SHOWN (wi
 
 -- where no option is named
 abbrev pub plain : Settings
-plain = record { allowance = 10000; rungs = 0; list = None; ahead = 0; certify = false }
+plain = record { allowance = 10000; rungs = 0; list = None; ahead = 0; workers = 0; certify = false }
 
 -- the reply where each fetch hands over this
 abbrev pub replied_with : Fetched → Work → Reply

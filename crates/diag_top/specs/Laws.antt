@@ -1,5 +1,5 @@
 -- What holds of every run and of every outcome.
-use Rattle.std.specs.Prelude.{◌≡◌, ℕ, ◌≤◌, List, Option, Some}
+use Rattle.std.specs.Prelude.{◌≡◌, ℕ, ◌≤◌, Contains, List, Option, Some}
 use Rattle.command_line.specs.Words.{Settings, AreAllowed}
 use Rattle.config_reader.specs.Configuration.{Configuration, IsWithin}
 use Rattle.config_reader.specs.Consistent.{AreConsistent}
@@ -7,8 +7,14 @@ use Rattle.clause_form.specs.ClauseForm.{needed}
 use Rattle.clause_form.specs.Laws.{IsStatedOf}
 use Rattle.feature_tree.specs.FeatureModel.{FeatureModel}
 use Rattle.diag_base.specs.Shelf.{Files}
+use Rattle.req_keys.specs.Key.{PositionSet}
+use Rattle.req_keys.specs.declared.verdict.Verdict.TheVariants as verdict
+use Rattle.script.specs.declared.job.Outcome.TheVariants as outcome
+use Rattle.script.specs.declared.job.Part.{Part}
+use Rattle.script.specs.declared.job.Parts.{Parts}
 use Rattle.script.specs.Right.{IsRight}
-use Rattle.diag_top.specs.Answer.{MOST_VARIABLES, answer, judged, plan_of}
+use Rattle.script.specs.Sequential.{needs}
+use Rattle.diag_top.specs.Answer.{MOST_VARIABLES, answer, judged, plan_of, verdicts}
 use Rattle.diag_top.specs.Run.{IsOfAnAnswer}
 use Rattle.diag_top.specs.Work.{Reply}
 
@@ -23,3 +29,15 @@ AdviceIsRight =
     (model : FeatureModel) (config : Configuration) (settings : Settings) (list : Option ℕ) → IsStatedOf model config
     → IsWithin config.requirements config.musts → AreAllowed settings → needed model config ≤ MOST_VARIABLES
     → IsRight (AreConsistent model config) (plan_of config list) (judged model config settings list).outcome
+
+-- the job ends with a limit at this key
+abbrev pub IsLimitAt : FeatureModel → Configuration → Settings → Option ℕ → PositionSet → Type 0
+IsLimitAt model config settings list key =
+    (part : Part) × (before : Parts) × ((judged model config settings list).outcome ≡ outcome.LimitAt part key before)
+
+-- A job ends with a limit exactly where a check that it needs has the verdict Limit, and it names one.
+abbrev pub LimitsAreNeeded : Type 0
+LimitsAreNeeded =
+    (model : FeatureModel) (config : Configuration) (settings : Settings) (list : Option ℕ) (key : PositionSet)
+    → (IsLimitAt model config settings list key → Contains (needs (plan_of config list) (verdicts model config settings)) (key, verdict.Limit))
+    × (Contains (needs (plan_of config list) (verdicts model config settings)) (key, verdict.Limit) → IsLimitAt model config settings list key)

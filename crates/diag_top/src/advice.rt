@@ -6,53 +6,55 @@ ghost use Rattle.clause_form.specs.ClauseForm.{needed};
 ghost use Rattle.certificate.specs.Writing.{IsOver};
 ghost use Rattle.diag_top.specs.Answer.{advice, certificate, counted, reported, second_of, status_of};
 ghost use Rattle.report.specs.inside.Counts.{counted as told};
+ghost use Rattle.diag_top.specs.inside.Doing.{DoesJobs, TakesJobs};
 ghost use Rattle.diag_top.specs.inside.Jobs.{IsDone, job_of, set};
 
 use crate::refusal::too_large;
 use crate::reply::Reply;
 use certificate::{write_certificate, written_is_accepted};
 use clause_form::{BuildError, problem_of};
+use clauses::Problem;
 use command_line::Status;
 use config_reader::Config;
 use diag_base::Bytes;
-use diag_workers::{Options, run_job_alone};
 use feature_tree::Model;
 use report::{Counts, report_of};
 use script::{Finished, JobPlan, Outcome};
 use std::alloc::{AllocError, Global};
 
-/// How many checks may be offered to workers in a round.
-const ENTRIES: u32 = 4_096;
-
 /// How a job is done: each check may learn `allowance` clauses in its first attempt, and `rungs` more attempts may follow; the
-/// minimal diagnoses up to the size `list` are listed, if it is there; so many answers are guessed `ahead`; and where `certify` says
-/// so a certificate follows the report.
+/// minimal diagnoses up to the size `list` are listed, if it is there; so many answers are guessed `ahead`; so many `workers` make
+/// checks beside the main thread; and where `certify` says so a certificate follows the report.
 #[derive(Clone, Copy, Debug)]
 pub struct Limits {
     pub allowance: u64,
     pub rungs: u8,
     pub list: Option<u32>,
     pub ahead: u8,
+    pub workers: u32,
     pub certify: bool,
 }
 
-/// The advice for a configuration of a model: the report, or that the problem would be too large.
-pub fn advice(
+/// The advice for a configuration of a model: the report, or that the problem would be too large. The jobs are done by `jobs`.
+pub fn advice<J: Fn(&Problem, JobPlan, u32, u8) -> Result<Finished, AllocError>>(
     alloc: Global,
     model: &Model,
     config: &Config,
     limits: Limits,
+    jobs: &J,
 ) -> Result<Reply, AllocError>
+    requires takes { TakesJobs (J.pre jobs.now) }
+    requires does { DoesJobs (J.post jobs.now) }
     requires stated { IsStated (length model.now.features) config.now }
     requires allowed { AreAllowed (set limits) }
     ensures { IfOk result (λ reply. reply ≡ advice model.now config.now (set limits)) }
 {
     written_is_accepted();
-    let first = match make_job(alloc, model, config, limits, limits.list)? {
+    let first = match make_job(alloc, model, config, limits, limits.list, jobs)? {
         Job::Done(finished) => finished,
         Job::TooLarge(needed) => return too_large(alloc, needed),
     };
-    let second = second_job(alloc, model, config, limits, &first.outcome)?;
+    let second = second_job(alloc, model, config, limits, &first.outcome, jobs)?;
     reported(alloc, model, config, limits, &first, second.as_ref())
 }
 
@@ -160,43 +162,44 @@ enum Job {
 }
 
 /// Does the job about a configuration of a model. The problem is dropped at the end.
-fn make_job(
+fn make_job<J: Fn(&Problem, JobPlan, u32, u8) -> Result<Finished, AllocError>>(
     alloc: Global,
     model: &Model,
     config: &Config,
     limits: Limits,
     list: Option<u32>,
+    jobs: &J,
 ) -> Result<Job, AllocError>
+    requires takes { TakesJobs (J.pre jobs.now) }
+    requires does { DoesJobs (J.post jobs.now) }
     requires stated { IsStated (length model.now.features) config.now }
     requires allowed { AreAllowed (set limits) }
     requires list { IfSome list (λ size. size ≤ 4096) }
     ensures { IfOk result (IsDone model.now config.now (set limits) list) }
 {
-    let options = Options {
-        workers: 0,
-        ahead: limits.ahead,
-        entries: ENTRIES,
-    };
     match problem_of(alloc, model, config, limits.allowance, limits.rungs) {
         Err(BuildError::Memory) => Err(AllocError),
         Err(BuildError::TooLarge { needed }) => Ok(Job::TooLarge(needed)),
         Ok(problem) => {
             let requirements = problem.n();
             let plan = JobPlan { requirements, list };
-            let finished = run_job_alone(alloc, &problem, plan, &options)?;
+            let finished = jobs(&problem, plan, limits.workers, limits.ahead)?;
             Ok(Job::Done(finished))
         }
     }
 }
 
 /// Where nothing can be met and there are musts: the job about these.
-fn second_job(
+fn second_job<J: Fn(&Problem, JobPlan, u32, u8) -> Result<Finished, AllocError>>(
     alloc: Global,
     model: &Model,
     config: &Config,
     limits: Limits,
     first: &Outcome,
+    jobs: &J,
 ) -> Result<Option<Finished>, AllocError>
+    requires takes { TakesJobs (J.pre jobs.now) }
+    requires does { DoesJobs (J.post jobs.now) }
     requires stated { IsStated (length model.now.features) config.now }
     requires allowed { AreAllowed (set limits) }
     requires fits { needed model.now config.now ≤ 1000000 }
@@ -206,7 +209,7 @@ fn second_job(
         return Ok(None);
     }
     let musts = config.of_musts(alloc)?;
-    match make_job(alloc, model, &musts, limits, None)? {
+    match make_job(alloc, model, &musts, limits, None, jobs)? {
         Job::Done(finished) => Ok(Some(finished)),
         Job::TooLarge(_) => Ok(None),
     }

@@ -9,6 +9,7 @@ ghost use Rattle.uvl_reader.specs.ModelReading.{model_of};
 ghost use Rattle.uvl_reader.specs.Refusals.{IsRefused};
 ghost use Rattle.diag_top.specs.Answer.{with_both, with_config, with_model};
 ghost use Rattle.diag_top.specs.Refusals.{config_too_long, model_too_long};
+ghost use Rattle.diag_top.specs.inside.Doing.{DoesJobs, TakesJobs};
 ghost use Rattle.diag_top.specs.inside.Follows.{Follows};
 ghost use Rattle.diag_top.specs.inside.Jobs.{IsAllowedTask, next_of};
 
@@ -16,10 +17,12 @@ use crate::advice::{Limits, advice};
 use crate::refusal::{refused_config, refused_model};
 use crate::reply::Reply;
 use crate::verification::verify_file;
+use clauses::Problem;
 use command_line::Status;
 use config_reader::{Config, ConfigError, read_config};
 use diag_base::{Bytes, FetchError, Fetched, Shelf};
 use feature_tree::Model;
+use script::{Finished, JobPlan};
 use std::alloc::{AllocError, Global};
 use uvl_reader::{ModelError, read_model};
 
@@ -36,13 +39,16 @@ pub enum Task<'a> {
 }
 
 /// What is answered to the names of a model and a configuration.
-pub fn with_both<F: Shelf>(
+pub fn with_both<F: Shelf, J: Fn(&Problem, JobPlan, u32, u8) -> Result<Finished, AllocError>>(
     alloc: Global,
     shelf: &mut F,
     model: &str,
     config: &str,
     task: Task<'_>,
+    jobs: &J,
 ) -> Result<Reply, AllocError>
+    requires takes { TakesJobs (J.pre jobs.now) }
+    requires does { DoesJobs (J.post jobs.now) }
     requires allowed { IsAllowedTask task }
     ensures told { IfOk result (λ reply. IfSome (F.files shelf.old) (λ files. Follows files (F.lost shelf.new) (with_both model.now config.now (next_of task.entry)) reply)) }
     ensures others { IfOk result (λ reply. (reply.status ≢ BadWords) × (reply.status ≢ Memory) × (reply.status ≢ WriteFault) × (reply.status ≢ Generated)) }
@@ -56,19 +62,22 @@ pub fn with_both<F: Shelf>(
         Ok(Fetched::Whole(bytes)) => match model_in(alloc, bytes) {
             Err(ModelError::Memory) => Err(AllocError),
             Err(ModelError::Refused { line, reason }) => refused_model(alloc, line, reason),
-            Ok(model) => with_model(alloc, shelf, &model, config, task),
+            Ok(model) => with_model(alloc, shelf, &model, config, task, jobs),
         },
     }
 }
 
 /// What is answered once the model is read.
-fn with_model<F: Shelf>(
+fn with_model<F: Shelf, J: Fn(&Problem, JobPlan, u32, u8) -> Result<Finished, AllocError>>(
     alloc: Global,
     shelf: &mut F,
     model: &Model,
     config: &str,
     task: Task<'_>,
+    jobs: &J,
 ) -> Result<Reply, AllocError>
+    requires takes { TakesJobs (J.pre jobs.now) }
+    requires does { DoesJobs (J.post jobs.now) }
     requires allowed { IsAllowedTask task }
     ensures told { IfOk result (λ reply. IfSome (F.files shelf.old) (λ files. Follows files (F.lost shelf.new) (with_model config.now (next_of task.entry) (Ok model.now)) reply)) }
     ensures others { IfOk result (λ reply. (reply.status ≢ BadWords) × (reply.status ≢ Memory) × (reply.status ≢ WriteFault) × (reply.status ≢ Generated)) }
@@ -81,18 +90,21 @@ fn with_model<F: Shelf>(
         }
         Err(FetchError::Memory) => Err(AllocError),
         Ok(Fetched::Longer) => too_long_config(alloc),
-        Ok(Fetched::Whole(bytes)) => with_config(alloc, shelf, model, bytes, task),
+        Ok(Fetched::Whole(bytes)) => with_config(alloc, shelf, model, bytes, task, jobs),
     }
 }
 
 /// What is answered once the configuration is fetched.
-fn with_config<F: Shelf>(
+fn with_config<F: Shelf, J: Fn(&Problem, JobPlan, u32, u8) -> Result<Finished, AllocError>>(
     alloc: Global,
     shelf: &mut F,
     model: &Model,
     bytes: Bytes,
     task: Task<'_>,
+    jobs: &J,
 ) -> Result<Reply, AllocError>
+    requires takes { TakesJobs (J.pre jobs.now) }
+    requires does { DoesJobs (J.post jobs.now) }
     requires few { length bytes ≤ MOST }
     requires allowed { IsAllowedTask task }
     ensures told { IfOk result (λ reply. IfSome (F.files shelf.old) (λ files. Follows files (F.lost shelf.new) (with_config (next_of task.entry model.now) (configuration bytes model.now)) reply)) }
@@ -104,7 +116,7 @@ fn with_config<F: Shelf>(
         Err(ConfigError::Memory) => Err(AllocError),
         Err(ConfigError::Refused { line, reason }) => refused_config(alloc, line, reason),
         Ok(config) => match task {
-            Task::Advise(limits) => advice(alloc, model, &config, limits),
+            Task::Advise(limits) => advice(alloc, model, &config, limits, jobs),
             Task::Verify(certificate) => verify_file(alloc, shelf, model, &config, certificate),
         },
     }

@@ -2,16 +2,19 @@
 ghost use Rattle.std.specs.Prelude.{◌≡◌, ◌≤◌, ◌<◌, ◌∷◌, IfOk, length, take, drop};
 ghost use Rattle.command_line.specs.Words.{IsDrawn};
 ghost use Rattle.diag_top.specs.Answer.{advice_on, generated};
+ghost use Rattle.diag_top.specs.inside.Doing.{DoesJobs, TakesJobs};
 ghost use Rattle.diag_top.specs.Unindented.{is_indented, lines_of, unindented};
 
 use crate::advice::{Limits, advice};
 use crate::files::{MOST, config_in, model_in, too_long_config, too_long_model};
 use crate::refusal::{refused_config, refused_model};
 use crate::reply::Reply;
+use clauses::Problem;
 use command_line::{Status, What};
 use config_reader::ConfigError;
 use diag_base::Bytes;
 use model_gen::generate;
+use script::{Finished, JobPlan};
 use std::alloc::{AllocError, Global};
 use uvl_reader::ModelError;
 
@@ -21,12 +24,21 @@ const PLAIN: Limits = Limits {
     rungs: 0,
     list: None,
     ahead: 0,
+    workers: 0,
     certify: false,
 };
 
 /// The text of this kind, drawn from the seed, for a product line of this size.
-pub fn generated(alloc: Global, seed: u32, size: u32, what: What) -> Result<Reply, AllocError>
-    requires { IsDrawn seed size }
+pub fn generated<J: Fn(&Problem, JobPlan, u32, u8) -> Result<Finished, AllocError>>(
+    alloc: Global,
+    seed: u32,
+    size: u32,
+    what: What,
+    jobs: &J,
+) -> Result<Reply, AllocError>
+    requires takes { TakesJobs (J.pre jobs.now) }
+    requires does { DoesJobs (J.post jobs.now) }
+    requires drawn { IsDrawn seed size }
     ensures { IfOk result (λ reply. reply ≡ generated seed size what) }
 {
     let (model, config) = generate(alloc, seed, size)?;
@@ -34,7 +46,7 @@ pub fn generated(alloc: Global, seed: u32, size: u32, what: What) -> Result<Repl
         What::Model => model,
         What::Config => config,
         What::Report => {
-            let reply = advice_on(alloc, model, config)?;
+            let reply = advice_on(alloc, model, config, jobs)?;
             unindented(alloc, reply.text.as_slice())?
         }
     };
@@ -45,7 +57,14 @@ pub fn generated(alloc: Global, seed: u32, size: u32, what: What) -> Result<Repl
 }
 
 /// What is replied to a model and a configuration with these bytes, where no option is named.
-fn advice_on(alloc: Global, model: Bytes, config: Bytes) -> Result<Reply, AllocError>
+fn advice_on<J: Fn(&Problem, JobPlan, u32, u8) -> Result<Finished, AllocError>>(
+    alloc: Global,
+    model: Bytes,
+    config: Bytes,
+    jobs: &J,
+) -> Result<Reply, AllocError>
+    requires takes { TakesJobs (J.pre jobs.now) }
+    requires does { DoesJobs (J.post jobs.now) }
     ensures { IfOk result (λ reply. reply ≡ advice_on model config) }
 {
     if model.len() > MOST {
@@ -58,7 +77,7 @@ fn advice_on(alloc: Global, model: Bytes, config: Bytes) -> Result<Reply, AllocE
         Ok(model) => match config_in(alloc, &model, config) {
             Err(ConfigError::Memory) => Err(AllocError),
             Err(ConfigError::Refused { line, reason }) => refused_config(alloc, line, reason),
-            Ok(config) => advice(alloc, &model, &config, PLAIN),
+            Ok(config) => advice(alloc, &model, &config, PLAIN, jobs),
         },
     }
 }

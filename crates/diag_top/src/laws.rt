@@ -1,5 +1,5 @@
 //! What holds of every answer and of every outcome.
-ghost use Rattle.diag_top.specs.Laws.{AdviceIsRight, AnswersAreNoFaults};
+ghost use Rattle.diag_top.specs.Laws.{AdviceIsRight, AnswersAreNoFaults, LimitsAreNeeded};
 
 use config_reader::Config;
 use feature_tree::Model;
@@ -21,6 +21,12 @@ pub fn advice_is_right()
 {
     outcome_is_right::<Configured>();
 }
+
+/// A job ends with a limit exactly where a check that it needs has the verdict Limit, and the key that it names is such a one. A
+/// check that is only guessed ahead and not needed is never seen.
+pub fn limits_are_needed()
+    ensures { LimitsAreNeeded }
+{}
 
 /// A configuration of a model.
 #[derive(Drop)]

@@ -1,1 +1,3 @@
 pub mod AloneLaws
+pub mod CourseLaws
+pub mod RoundLaws

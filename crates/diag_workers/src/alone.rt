@@ -6,17 +6,19 @@ ghost use Rattle.req_keys.specs.Key.{PositionSet};
 ghost use Rattle.req_keys.specs.declared.verdict.Verdict.{Verdict as Answer};
 ghost use Rattle.script.specs.Running.{key_in, want_after};
 ghost use Rattle.script.specs.Sequential.{needs, result_of, verdicts_of};
+ghost use Rattle.diag_workers.specs.inside.Course.{IsBetween, IsNext};
 
+use crate::course::{Course, finish, new_course, ordered};
 use crate::options::Options;
 use clauses::Problem;
-use look_ahead::{Posting, ahead, guessed_keys_fit_a_turn, turns_go_on};
+use look_ahead::{Posting, turns_go_on};
 use req_keys::{Key, Verdict, Want};
-use script::{Finished, JobPlan, Run};
-use solver::{NoStop, SolveError, solve};
+use script::{Finished, JobPlan, Run, run_goes_on};
+use solver::{NoStop, Searcher, SolveError};
 use std::alloc::{AllocError, Global};
 
-/// Does the job on one thread. Each check that the job asks is a search of its own; what is posted ahead is only counted, so
-/// that the numbers are those of a run with workers.
+/// Does the job on one thread. One search is kept for all its checks. What is posted ahead is only counted, so that the numbers
+/// are those of a run with workers.
 pub fn run_job_alone(
     alloc: Global,
     problem: &Problem,
@@ -37,29 +39,72 @@ pub fn run_job_alone(
     ensures wasted { IfOk result (λ finished. finished.wasted
         ≡ wasted_in (posting plan (verdicts_of problem.now) options.now.ahead options.now.entries)) }
 {
-    turns_go_on();
+    run_goes_on();
     let same = plan.requirements == problem.n();
     prove!(same);
-    let mut run = Run::new(alloc, plan)?;
-    let mut posting = Posting::new(alloc, options.entries)?;
-    'checks: while check_next(alloc, problem, options.ahead, &mut run, &mut posting)? {}
-    let wasted = posting.wasted();
-    Ok(run.finish(posting.into_posted(), wasted))
+    let mut searcher = Searcher::new(alloc, problem)?;
+    let done = all_checks(alloc, &mut searcher, plan, options)?;
+    Ok(finish(done))
+}
+
+/// A new job, with all its checks made.
+fn all_checks(
+    alloc: Global,
+    searcher: &mut Searcher<'_>,
+    plan: JobPlan,
+    options: &Options,
+) -> Result<Course, AllocError>
+    requires ahead { options.now.ahead ≤ 6 }
+    requires least { 1 ≤ options.now.entries }
+    requires most { options.now.entries ≤ 4096 }
+    requires plan { plan.requirements ≡ length searcher.old.roots }
+    requires few { plan.requirements ≤ 4096 }
+    requires list { IfSome plan.list (λ size. size ≤ 4096) }
+    ensures plan { IfOk result (λ done. done.run.plan ≡ plan) }
+    ensures next { IfOk result (λ done. IsNext searcher.old options.now.ahead options.now.entries done.run done.posting None) }
+{
+    let mut course = new_course(alloc, plan, options)?;
+    make_checks(alloc, searcher, options, &mut course)?;
+    Ok(course)
+}
+
+/// Makes checks, each with its turn, until the job is done.
+fn make_checks(
+    alloc: Global,
+    searcher: &mut Searcher<'_>,
+    options: &Options,
+    course: &mut Course,
+) -> Result<(), AllocError>
+    requires ahead { options.now.ahead ≤ 6 }
+    requires plan { course.old.run.plan.requirements ≡ length searcher.old.roots }
+    requires between { IsBetween searcher.old options.now.ahead options.now.entries course.old.run course.old.posting }
+    ensures plan { OnOk result (course.new.run.plan ≡ course.old.run.plan) }
+    ensures next { OnOk result (IsNext searcher.old options.now.ahead options.now.entries course.new.run course.new.posting None) }
+{
+    turns_go_on();
+    let Course {
+        run,
+        posting,
+        next: _,
+    } = course;
+    'checks: while check_next(alloc, searcher, options.ahead, run, posting)? {}
+    Ok(())
 }
 
 /// The check that the run asks, with its turn. Where it asks none, nothing changes, and the answer is false.
 fn check_next(
     alloc: Global,
-    problem: &Problem,
+    searcher: &mut Searcher<'_>,
     depth: u8,
     run: &mut Run,
     posting: &mut Posting,
 ) -> Result<bool, AllocError>
     requires depth { depth ≤ 6 }
-    requires plan { run.old.plan.requirements ≡ length problem.now.roots }
+    requires plan { run.old.plan.requirements ≡ length searcher.old.roots }
+    ensures problem { searcher.new ≡ searcher.old }
     ensures asked { IfOk result (λ asked. asked ≡ is_some (key_in (want_after run.old))) }
     ensures told { (key : PositionSet) → key_in (want_after run.old) ≡ Some key →
-        OnOk result (run.new ≡ record { plan = run.old.plan; told = run.old.told ++ (key, verdicts_of problem.now key) ∷ [] }) }
+        OnOk result (run.new ≡ record { plan = run.old.plan; told = run.old.told ++ (key, verdicts_of searcher.old key) ∷ [] }) }
     ensures turn { (key : PositionSet) → key_in (want_after run.old) ≡ Some key →
         OnOk result (posting.new ≡ turn_at run.old.plan depth run.old.told key posting.old) }
     ensures end { key_in (want_after run.old) ≡ None → OnOk result ((run.new ≡ run.old) × (posting.new ≡ posting.old)) }
@@ -68,7 +113,7 @@ fn check_next(
         return Ok(false);
     };
     take_turn(alloc, run, key, depth, posting)?;
-    let verdict = verdict_on(alloc, problem, key)?;
+    let verdict = verdict_on(searcher, key)?;
     run.tell(verdict)?;
     Ok(true)
 }
@@ -85,19 +130,18 @@ fn take_turn(
     requires depth { depth ≤ 6 }
     ensures { OnOk result (posting.new ≡ turn_at run.now.plan depth run.now.told key.now posting.old) }
 {
-    guessed_keys_fit_a_turn();
-    let list = ahead(alloc, run, depth)?;
-    let _orders = posting.turn(key, &list)?;
+    let _orders = ordered(alloc, run, key, depth, posting)?;
     posting.settle(key);
     Ok(())
 }
 
 /// The verdict on a key.
-fn verdict_on(alloc: Global, problem: &Problem, key: &Key) -> Result<Verdict, AllocError>
-    requires { key.now.n ≡ length problem.now.roots }
-    ensures { IfOk result (λ verdict. verdict ≡ verdicts_of problem.now key.now) }
+fn verdict_on(searcher: &mut Searcher<'_>, key: &Key) -> Result<Verdict, AllocError>
+    requires { key.now.n ≡ length searcher.old.roots }
+    ensures problem { searcher.new ≡ searcher.old }
+    ensures verdict { IfOk result (λ verdict. verdict ≡ verdicts_of searcher.old key.now) }
 {
-    match solve(alloc, problem, key, &mut NoStop) {
+    match searcher.answer(key, &mut NoStop) {
         Ok(answer) => Ok(answer.verdict()),
         // Nobody stops the search, so this is want of memory.
         Err(SolveError::Memory | SolveError::Stopped) => Err(AllocError),

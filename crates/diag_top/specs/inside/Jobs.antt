@@ -14,7 +14,7 @@ use Rattle.diag_top.specs.Answer.{Judged, advised, judged, verified, MOST_VARIAB
 use Rattle.diag_top.specs.Work.{Work}
 
 abbrev pub set : Limits → Settings
-set limits = record { allowance = limits.allowance; rungs = limits.rungs; list = limits.list; ahead = limits.ahead; certify = limits.certify }
+set limits = record { allowance = limits.allowance; rungs = limits.rungs; list = limits.list; ahead = limits.ahead; workers = limits.workers; certify = limits.certify }
 
 abbrev pub job_of : Finished → Judged
 job_of finished = record { outcome = finished.outcome; checks = length finished.used; predicted = length finished.posted; wasted = finished.wasted }

@@ -15,7 +15,7 @@ copied None second e = ap (option_map job_of) e
 copied (Some job) second e = ap (option_map job_of) e
 
 pub returns : goal.returns
-returns c =
+returns g c =
     let model = c.args.model.now in
     let config = c.args.config.now in
     let settings = set c.args.limits in
@@ -25,7 +25,7 @@ returns c =
     done.0 done.1 (copied c.as_ref.result c.in_ok-second.second c.as_ref.ensures.value ∙ c.in_ok-second.ensures) c.reported.ensures
 
 pub reported-requires-clause-over : goal.reported-requires-clause-over
-reported-requires-clause-over c =
+reported-requires-clause-over g c =
     let model = c.args.model.now in
     let config = c.args.config.now in
     let settings = set c.args.limits in

@@ -9,7 +9,7 @@ use Rattle.diag_top.proofs.MustsLemmas.{musts_need_no_more}
 use Rattle.diag_top.proofs.advice.second_job.Goals as goal
 
 pub returns : goal.returns
-returns c =
+returns g c =
     let model = c.args.model.now in
     let done : IsDone model c.in_ok-musts.musts (set c.args.limits) None (TooLarge c.in-TooLarge.field-0) =
     subst (IsDone model c.in_ok-musts.musts (set c.args.limits) None) c.in-TooLarge.is c.in_ok-finished.ensures in

@@ -10,7 +10,7 @@ use Rattle.diag_top.specs.Run.{Counts}
 use Rattle.diag_top.specs.Work.{Reply}
 use Rattle.diag_top.specs.inside.Follows.{Follows}
 use Rattle.diag_top.proofs.Runs.{written, written_part, completed}
-use Rattle.diag_top.proofs.run.run_alone.Goals as goal
+use Rattle.diag_top.proofs.running.run_with.Goals as goal
 
 pub returns-clause-told : goal.returns-clause-told
 returns-clause-told g c = λ files before tells has.

@@ -1,15 +1,16 @@
 use Rattle.std.proofs.Common.{◌≡◌, ◌∙◌, sym, ap, subst, refl, List}
-use Rattle.std.specs.Prelude.{All, Contains, IsSome}
+use Rattle.std.specs.Prelude.{All, Contains, IfOk, IsSome, OnOk, Result}
 use Rattle.std.proofs.lemmas.List.Elements.{All-weaker}
 use Rattle.lists.specs.Distinct.{IsDistinct}
 use Rattle.req_keys.specs.Key.{PositionSet}
 use Rattle.script.specs.Running.{want_after}
 use Rattle.script.proofs.SequentialRuns.{want-key}
 use Rattle.look_ahead.specs.Ahead.{keys_ahead}
-use Rattle.look_ahead.specs.Posting.{after_turn, settled_by}
+use Rattle.look_ahead.specs.Posting.{PostingState, after_turn, orders_of}
+use Rattle.look_ahead.specs.declared.orders.Orders.{Orders}
 use Rattle.look_ahead.specs.Postings.{wants_of}
 use Rattle.diag_workers.proofs.AloneLaws.{asking}
-use Rattle.diag_workers.proofs.alone.take_turn.Goals as goal
+use Rattle.diag_workers.proofs.course.ordered.Goals as goal
 
 pub ahead-requires-clause-asks : goal.ahead-requires-clause-asks
 ahead-requires-clause-asks c = subst IsSome (sym c.requires.asks) refl
@@ -35,7 +36,17 @@ turn-requires-clause-positions c =
     subst P (sym c.in_ok-list.ensures)
     (All-weaker (λ (k : PositionSet). k.n ≡ run.plan.requirements) (λ k. k.n ≡ key.n) (λ k e. e ∙ sym size) (keys_ahead (wants_of run.plan) run.told c.args.depth) (c.guessed_keys_fit_a_turn.ensures.positions run.plan run.told c.args.depth))
 
-pub returns : goal.returns
-returns c =
-    c.settle.ensures
-    ∙ ap (settled_by c.args.key.now) (c.in_ok-_orders.ensures.ok ∙ ap (λ (l : List PositionSet). after_turn c.args.key.now l c.args.posting.now) c.in_ok-list.ensures)
+-- what is said over an equal list
+over_list : {E : Type 0} (found : Result Orders E) (key : PositionSet) (state : PostingState) (l m : List PositionSet) → l ≡ m → IfOk found (λ o. o ≡ orders_of key l state) → IfOk found (λ o. o ≡ orders_of key m state)
+over_list found key state l m e h = subst (λ (x : List PositionSet). IfOk found (λ o. o ≡ orders_of key x state)) e h
+
+turned_by : {A E : Type 0} (found : Result A E) (new : PostingState) (key : PositionSet) (state : PostingState) (l m : List PositionSet) → l ≡ m → OnOk found (new ≡ after_turn key l state) → OnOk found (new ≡ after_turn key m state)
+turned_by found new key state l m e h = subst (λ (x : List PositionSet). OnOk found (new ≡ after_turn key x state)) e h
+
+pub returns-clause-orders : goal.returns-clause-orders
+returns-clause-orders c =
+    over_list c.turn.result c.args.key.now c.args.posting.now c.in_ok-list.list (keys_ahead (wants_of c.args.run.now.plan) c.args.run.now.told c.args.depth) c.in_ok-list.ensures c.turn.ensures.orders
+
+pub returns-clause-turn : goal.returns-clause-turn
+returns-clause-turn c =
+    turned_by c.turn.result c.turn.new.self c.args.key.now c.args.posting.now c.in_ok-list.list (keys_ahead (wants_of c.args.run.now.plan) c.args.run.now.told c.args.depth) c.in_ok-list.ensures c.turn.ensures.ok

@@ -1,0 +1,4 @@
+-- What serves private functions.
+pub mod Course
+pub mod Ready
+pub mod Seats
