@@ -2,7 +2,9 @@ pub mod ValueLaws
 pub mod GrowthLaws
 pub mod RootLaws
 pub mod RoomLaws
+pub mod Codes
 pub mod TrailLaws
+pub mod TrailValues
 pub mod ChainLaws
 pub mod ChainMoves
 pub mod WatchLaws

@@ -16,7 +16,7 @@ use Rattle.propagation.specs.inside.Trails.{IsTrail}
 use Rattle.propagation.proofs.RoomLaws.{distinct-few}
 use Rattle.propagation.proofs.ValueLaws.{All-members}
 
-same_bool : (a b : Bool) → (a ≡ true → b ≡ true) → (b ≡ true → a ≡ true) → a ≡ b
+pub same_bool : (a b : Bool) → (a ≡ true → b ≡ true) → (b ≡ true → a ≡ true) → a ≡ b
 same_bool true b f g = sym (f refl)
 same_bool false true f g = g refl
 same_bool false false f g = refl
@@ -80,7 +80,7 @@ module _ (literals : List Lit) (places : List ℕ) (room : ℕ) (is : IsTrail li
       omega arith)
 
   -- a literal that came at a place or later isn't among those before it
-  since-at : (l : Lit) (start : ℕ) → start ≤ get_or places l.var 0 → has (take start literals) l ≡ false
+  pub since-at : (l : Lit) (start : ℕ) → start ≤ get_or places l.var 0 → has (take start literals) l ≡ false
   since-at l start late =
       false_from_ne_true (has (take start literals) l) (λ h.
       let m = from_has (take start literals) l h in

@@ -11,13 +11,14 @@ use Rattle.clauses.specs.Closure.{closure}
 use Rattle.clauses.specs.Problem.{IsBelow}
 use Rattle.clauses.proofs.LeastLaws.{closure-closed}
 use Rattle.clauses.proofs.Literals.{has-from}
-use Rattle.propagation.specs.inside.Trails.{IsOneSigned, Trailing}
+use Rattle.propagation.specs.inside.Trails.{IsOneSigned, Trailing, code_of}
 use Rattle.propagation.specs.inside.Visits.{IsReplacement, IsStep, Stays}
-use Rattle.propagation.specs.inside.Watching.{AreChains, AreCovered, AreInside, AreKept, AreWatches, IsCovered, IsGrowth, IsRefuted, IsSubset, code_of, nothing, partner, watched_at}
+use Rattle.propagation.specs.inside.Watching.{AreChains, AreCovered, AreInside, AreKept, AreWatches, IsCovered, IsGrowth, IsRefuted, IsSubset, nothing, partner, watched_at}
 use Rattle.propagation.proofs.ValueLaws.{Any-member}
+use Rattle.propagation.proofs.Codes.{code-below, code-same}
 use Rattle.propagation.proofs.ChainLaws.{counted, chain_count, place-same, place-other, row-empty, row-same, row-some, shift-chains, shifted, shifted_place, head-inside, with_row}
 use Rattle.propagation.proofs.ChainMoves.{rename-chains, swapped, swapped_place, swapped-spare, swapped-other, renamed-size}
-use Rattle.propagation.proofs.WatchLaws.{code-below, code-same, partner-back, partner-clause, partner-inside, partner-other}
+use Rattle.propagation.proofs.WatchLaws.{partner-back, partner-clause, partner-inside, partner-other}
 
 -- ---- growth
 

@@ -1,7 +1,7 @@
 //! The trail.
-ghost use Rattle.std.specs.Prelude.{◌≡◌, ◌<◌, ◌≤◌, [], ◌∷◌, ◌++◌, IfOk, Some, false, length, slice_get, take};
+ghost use Rattle.std.specs.Prelude.{◌≡◌, ◌<◌, ◌≤◌, [], ◌∷◌, ◌++◌, All, IfOk, Some, false, length, slice_get, take};
 ghost use Rattle.clauses.specs.Clause.{has, negation};
-ghost use Rattle.propagation.specs.inside.Trails.{IsOneSigned, IsTakenIn, value_in};
+ghost use Rattle.propagation.specs.inside.Trails.{AreUnset, IsOneSigned, IsTakenIn, code_of, value_in};
 
 use clauses::Lit;
 use std::alloc::{AllocError, Global};
@@ -14,27 +14,35 @@ pub(crate) struct Trail {
     literals: Vec<Lit>,
     /// By the variable's number: where its literal stands, if one does.
     places: Vec<usize>,
+    /// By the literal's number: whether it stands there.
+    values: Vec<bool>,
 }
 
 impl Model for Trail {
     ghost use Rattle.std.specs.Prelude.{length, vec_capacity};
-    ghost use Rattle.propagation.specs.inside.Trails.{IsTrail, Trailing};
+    ghost use Rattle.propagation.specs.inside.Trails.{AreValues, IsTrail, Trailing};
 
     ghost Value = { Trailing };
 
     ghost view = { λ a. record { variables = length a.places.items; literals = a.literals.items } };
 
-    ghost invariant = { λ a. IsTrail a.literals.items a.places.items (vec_capacity a.literals) };
+    ghost invariant = { λ a. IsTrail a.literals.items a.places.items (vec_capacity a.literals) × AreValues (length a.places.items) a.literals.items a.values.items };
 }
 
 impl Trail {
     /// The empty trail, for so many variables.
     pub fn new(alloc: Global, variables: usize) -> Result<Trail, AllocError>
+        requires { variables ≤ 1000000 }
         ensures { IfOk result (λ trail. trail ≡ record { variables = variables; literals = [] }) }
     {
         let literals = Vec::with_capacity(alloc, variables)?;
         let places = vec![in alloc; 0; variables]?;
-        Ok(Trail { literals, places })
+        let values = vec![in alloc; false; 2 * variables]?;
+        Ok(Trail {
+            literals,
+            places,
+            values,
+        })
     }
 
     pub fn len(&self) -> usize
@@ -59,8 +67,7 @@ impl Trail {
         ensures answer { result ≡ has self.now.literals literal }
         ensures one_signed { IsOneSigned self.now.literals }
     {
-        let place = self.places[literal.var as usize];
-        place < self.literals.len() && self.literals[place] == literal
+        self.values[code_of(literal)]
     }
 
     /// Whether its negation is.
@@ -126,6 +133,7 @@ impl Trail {
         ensures { self.new ≡ record self.old { literals = self.old.literals ++ literal ∷ [] } }
     {
         self.places[literal.var as usize] = self.literals.len();
+        self.values[code_of(literal)] = true;
         self.literals.push_reserved(literal);
     }
 
@@ -133,6 +141,27 @@ impl Trail {
     pub fn cut(&mut self, count: usize)
         ensures { self.new ≡ record self.old { literals = take count self.old.literals } }
     {
+        if count >= self.literals.len() {
+            return;
+        }
+        unset(&mut self.values, &self.literals[count..]);
         self.literals.truncate(count);
+    }
+}
+
+/// The number of the literal.
+pub(crate) fn code_of(literal: Lit) -> usize
+    ensures { result ≡ code_of literal }
+{
+    2 * literal.var as usize + usize::from(literal.positive)
+}
+
+/// None of these literals stands there any more.
+fn unset(values: &mut [bool], literals: &[Lit])
+    requires { All (λ literal. code_of literal < length values.old) literals.now }
+    ensures { AreUnset values.old literals.now values.new }
+{
+    for literal in literals {
+        values[code_of(*literal)] = false;
     }
 }

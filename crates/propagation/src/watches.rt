@@ -4,9 +4,10 @@ ghost use Rattle.clauses.specs.declared.literal.Lit.{Lit};
 ghost use Rattle.clauses.specs.Clause.{negation};
 ghost use Rattle.clauses.specs.Problem.{IsBelow};
 ghost use Rattle.propagation.specs.inside.Visits.{IsStep};
-ghost use Rattle.propagation.specs.inside.Watching.{AreInside, AreKept, IsGrowth, IsRefuted, IsReleased, code_of, partner, watched_at};
+ghost use Rattle.propagation.specs.inside.Trails.{code_of};
+ghost use Rattle.propagation.specs.inside.Watching.{AreInside, AreKept, IsGrowth, IsRefuted, IsReleased, partner, watched_at};
 
-use crate::trail::Trail;
+use crate::trail::{Trail, code_of};
 use crate::visits::{Visit, look_at};
 use clauses::{Clause, Lit};
 use std::alloc::{AllocError, Global};
@@ -127,13 +128,6 @@ impl Watches {
         self.heads[spare] = NOTHING;
         fits
     }
-}
-
-/// The number of the literal.
-fn code_of(literal: Lit) -> usize
-    ensures { result ≡ code_of literal }
-{
-    2 * literal.var as usize + usize::from(literal.positive)
 }
 
 /// The other entry of the same clause.

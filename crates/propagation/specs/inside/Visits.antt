@@ -4,8 +4,8 @@ use Rattle.clauses.specs.declared.literal.Lit.{Lit}
 use Rattle.clauses.specs.Clause.{has, negation}
 use Rattle.propagation.specs.declared.visits.Visit.{Visit}
 use Rattle.propagation.specs.declared.visits.Visit.TheVariants as visit
-use Rattle.propagation.specs.inside.Trails.{IsOneSigned, Trailing}
-use Rattle.propagation.specs.inside.Watching.{IsRefuted, code_of}
+use Rattle.propagation.specs.inside.Trails.{IsOneSigned, Trailing, code_of}
+use Rattle.propagation.specs.inside.Watching.{IsRefuted}
 
 -- another literal of the clause that isn't false, if there is one
 abbrev pub IsReplacement : List Lit → List Lit → Lit → Option Lit → Type 0

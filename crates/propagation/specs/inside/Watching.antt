@@ -1,12 +1,12 @@
 -- Two watched literals of each clause. The entries 2 i and 2 i + 1 are those of the clause with number i; a chain leads
 -- through the entries that watch a literal.
-use Rattle.std.specs.Prelude.{◌≡◌, ◌≢◌, ◌⊎◌, ◌+◌, ◌-◌, ◌*◌, ◌/◌, ◌%◌, ◌<◌, ◌++◌, ◌∷◌, [], ℕ, All, Contains, List, length, slice_index_or, if◌then◌else◌}
+use Rattle.std.specs.Prelude.{◌≡◌, ◌≢◌, ◌⊎◌, ◌+◌, ◌-◌, ◌*◌, ◌/◌, ◌%◌, ◌<◌, ◌++◌, ◌∷◌, [], ℕ, All, Contains, List, length, slice_index_or}
 use Rattle.lists.specs.Distinct.{IsDistinct}
 use Rattle.clauses.specs.declared.literal.Lit.{Lit}
 use Rattle.clauses.specs.Clause.{negation, negative_of}
 use Rattle.clauses.specs.Closure.{closure}
 use Rattle.clauses.specs.Problem.{IsBelow}
-use Rattle.propagation.specs.inside.Trails.{Trailing}
+use Rattle.propagation.specs.inside.Trails.{Trailing, code_of}
 use Rattle.propagation.specs.inside.Values.{IsPart}
 
 -- the watched literal of each entry, and for how many there is room
@@ -14,10 +14,6 @@ pub record Watching : Type 0 where
   pub variables : ℕ
   pub watched : List Lit
   pub room : ℕ
-
--- the number of a literal
-abbrev pub code_of : Lit → ℕ
-code_of literal = 2 * literal.var + (if literal.positive then 1 else 0)
 
 -- the other entry of the same clause
 abbrev pub partner : ℕ → ℕ

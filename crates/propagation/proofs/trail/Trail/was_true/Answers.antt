@@ -12,7 +12,7 @@ returns-then-index-count c =
     let below : c.args.literal.var < length inside.places.items = subst (λ (t : Trailing). c.args.literal.var < t.variables) (sym c.self.view_is) c.requires in
     c.is_true.ensures.answer
     ∙ ap (λ (t : Trailing). has t.literals c.args.literal) (sym c.self.view_is)
-    ∙ was-at inside.literals.items inside.places.items _ c.self.invariant c.args.literal c.args.count c.index.result.now
+    ∙ was-at inside.literals.items inside.places.items _ c.self.invariant.0 c.args.literal c.args.count c.index.result.now
     (c.index.ensures ∙ get_or_default inside.places.items c.args.literal.var c.index.result.now 0 below) c.if-index-count.true
     ∙ ap (λ (t : Trailing). has (take c.args.count t.literals) c.args.literal) c.self.view_is
 
@@ -21,6 +21,6 @@ returns-else-index-count c =
     let inside = c.self.inside in
     let below : c.args.literal.var < length inside.places.items = subst (λ (t : Trailing). c.args.literal.var < t.variables) (sym c.self.view_is) c.requires in
     le-ltb c.index.result.now c.args.count c.if-index-count.false
-    ∙ sym (was-past inside.literals.items inside.places.items _ c.self.invariant c.args.literal c.args.count c.index.result.now
+    ∙ sym (was-past inside.literals.items inside.places.items _ c.self.invariant.0 c.args.literal c.args.count c.index.result.now
     (c.index.ensures ∙ get_or_default inside.places.items c.args.literal.var c.index.result.now 0 below) c.if-index-count.false)
     ∙ ap (λ (t : Trailing). has (take c.args.count t.literals) c.args.literal) c.self.view_is

@@ -3,8 +3,9 @@ use Rattle.std.specs.Prelude.{All}
 use Rattle.std.proofs.lemmas.List.{get_or_default}
 use Rattle.clauses.specs.declared.literal.Lit.{Lit}
 use Rattle.clauses.specs.Problem.{IsBelow}
+use Rattle.propagation.specs.inside.Trails.{code_of}
 use Rattle.propagation.specs.inside.Visits.{IsStep}
-use Rattle.propagation.specs.inside.Watching.{AreInside, AreKept, AreWatches, Watching, code_of, nothing, partner, watched_at}
+use Rattle.propagation.specs.inside.Watching.{AreInside, AreKept, AreWatches, Watching, nothing, partner, watched_at}
 use Rattle.propagation.proofs.WalkLaws.{walk-start, walk-ends, walk-seen, from-in, spare-in, entry-next, entry-watched, step-inside, step-apart, step-walk, step-smaller}
 use Rattle.propagation.proofs.WatchLaws.{whole}
 use Rattle.propagation.proofs.watches.Watches.spread.Goals as goal

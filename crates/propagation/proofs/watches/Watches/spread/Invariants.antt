@@ -1,5 +1,5 @@
 use Rattle.std.proofs.Common.{◌≡◌, length, get_or}
-use Rattle.propagation.specs.inside.Watching.{code_of}
+use Rattle.propagation.specs.inside.Trails.{code_of}
 use Rattle.propagation.proofs.ChainLaws.{chain_count}
 use Rattle.propagation.proofs.WalkLaws.{IsWalk}
 use Rattle.propagation.proofs.watches.Watches.spread.Given as goal

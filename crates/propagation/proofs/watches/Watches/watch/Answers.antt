@@ -1,7 +1,8 @@
 use Rattle.std.proofs.Common.{◌≡◌, ◌∙◌, sym, ap, length, subst, [], ◌∷◌, ◌++◌, ◌<◌, set, ℕ, List, arith, get_or}
 use Rattle.std.proofs.lemmas.List.{get_or_default}
 use Rattle.clauses.specs.declared.literal.Lit.{Lit}
-use Rattle.propagation.specs.inside.Watching.{AreWatches, Watching, code_of}
+use Rattle.propagation.specs.inside.Trails.{code_of}
+use Rattle.propagation.specs.inside.Watching.{AreWatches, Watching}
 use Rattle.propagation.proofs.WatchLaws.{watch-one, slot-inside}
 use Rattle.propagation.proofs.watches.Watches.watch.Goals as goal
 
