@@ -1,13 +1,15 @@
 -- What becomes of a clause that is looked at.
-use Rattle.std.proofs.Common.{◌≡◌, ◌⊎◌, refl, sym, subst, inl, inr, ⊎_elim, ℕ, ◌+◌, ◌<◌, ◌≤◌, Bool, false, List, length, get_or, take, arith}
-use Rattle.std.specs.Prelude.{Contains, None}
+use Rattle.std.proofs.Common.{◌≡◌, ◌∙◌, ◌⊎◌, refl, sym, subst, inl, inr, ⊎_elim, ℕ, ◌+◌, ◌<◌, ◌≤◌, Bool, true, false, List, [], ◌∷◌, ◌++◌, length, get_or, take, arith}
+use Rattle.std.specs.Prelude.{◌≢◌, Contains, None}
 use Rattle.std.proofs.lemmas.Bool.{false≢true}
 use Rattle.std.proofs.lemmas.List.{take_more, take_all}
-use Rattle.std.proofs.lemmas.List.Elements.{Contains-push_cases}
+use Rattle.std.proofs.lemmas.List.Elements.{Contains-append_right, Contains-push_cases}
+use Rattle.lists.proofs.Members.{first, first_or_later, none}
 use Rattle.clauses.specs.declared.literal.Lit.{Lit}
 use Rattle.clauses.specs.Clause.{negation, negative_of}
+use Rattle.propagation.specs.declared.visits.Visit.TheVariants as visit
 use Rattle.propagation.specs.inside.Trails.{Trailing}
-use Rattle.propagation.specs.inside.Visits.{IsReplacement, IsStep}
+use Rattle.propagation.specs.inside.Visits.{IsReplacement, IsStep, IsVisit}
 use Rattle.propagation.specs.inside.Watching.{IsRefuted}
 use Rattle.propagation.proofs.ValueLaws.{All-members}
 
@@ -31,6 +33,35 @@ all-refuted set clause other none_so refuted =
     All-members (λ l. Contains set (negation l)) clause (λ l m.
     ⊎_elim (λ (e : l ≡ other). subst (λ (x : Lit). Contains set (negation x)) (sym e) refuted) (λ (f : Contains set (negation l)). f) (none_so l m))
 
+-- ---- a clause of two literals
+
+two : (p q x : Lit) → Contains (p ∷ q ∷ []) x → (p ≡ x) ⊎ (q ≡ x)
+two p q x m =
+    ⊎_elim
+    (λ (e : p ≡ x). inl e)
+    (λ (later : Contains (q ∷ []) x). ⊎_elim (λ (e : q ≡ x). inr e) (λ (no : Contains [] x). absurd (none x no)) (first_or_later q [] x later))
+    (first_or_later p (q ∷ []) x m)
+
+pub of-two : (clause : List Lit) → length clause ≡ 2 → (a b : Lit) → Contains clause a → Contains clause b → ¬ a ≡ b → (x : Lit) → Contains clause x → ¬ x ≡ b → x ≡ a
+of-two [] size a b a_in b_in apart x m ne = absurd (none a a_in)
+of-two (p ∷ []) size a b a_in b_in apart x m ne = absurd (omega arith)
+of-two (p ∷ q ∷ r ∷ rest) size a b a_in b_in apart x m ne = absurd (omega arith)
+of-two (p ∷ q ∷ []) size a b a_in b_in apart x m ne =
+    ⊎_elim
+    (λ (x_first : p ≡ x).
+    ⊎_elim
+    (λ (a_first : p ≡ a). sym x_first ∙ a_first)
+    (λ (a_second : q ≡ a).
+    ⊎_elim (λ (b_first : p ≡ b). absurd (ne (sym x_first ∙ b_first))) (λ (b_second : q ≡ b). absurd (apart (sym a_second ∙ b_second))) (two p q b b_in))
+    (two p q a a_in))
+    (λ (x_second : q ≡ x).
+    ⊎_elim
+    (λ (a_first : p ≡ a).
+    ⊎_elim (λ (b_first : p ≡ b). absurd (apart (sym a_first ∙ b_first))) (λ (b_second : q ≡ b). absurd (ne (sym x_second ∙ b_second))) (two p q b b_in))
+    (λ (a_second : q ≡ a). sym x_second ∙ a_second)
+    (two p q a a_in))
+    (two p q x m)
+
 pub refuted-step : (spare entry : ℕ) (clause : List Lit) (other : Lit) (watched : List Lit) (old new : Trailing) (before : Bool)
     → (new ≡ old) × IsReplacement old.literals clause other None × Contains old.literals (negation other) → IsStep spare entry clause other watched watched old new before false spare
 refuted-step spare entry clause other watched old new before is =
@@ -41,6 +72,25 @@ refuted-step spare entry clause other watched old new before is =
         grown = inl is.0;
         seen = λ t. absurd (false≢true t);
         refuted = λ _. (is.0, inr (all-refuted old.literals clause other is.1 is.2));
+      },
+    )
+
+pub stays-step : (spare entry : ℕ) (clause : List Lit) (other : Lit) (watched : List Lit) (old new : Trailing) (before : Bool) → before ≡ true → IsVisit old new clause other visit.Stays → IsStep spare entry clause other watched watched old new before before spare
+stays-step spare entry clause other watched old new before fits is =
+    inl (
+      refl,
+      refl,
+      record {
+        grown = ⊎_elim (λ (there : (new ≡ old) × Contains old.literals other). inl there.0) inr is;
+        seen = λ t. (
+            t,
+            ⊎_elim
+            (λ (there : (new ≡ old) × Contains old.literals other). subst (λ (n : Trailing). Contains n.literals other) (sym there.0) there.1)
+            (λ (forced : (new ≡ record old { literals = old.literals ++ other ∷ [] }) × ((l : Lit) → Contains clause l → l ≢ other → Contains old.literals (negation l))).
+            subst (λ (n : Trailing). Contains n.literals other) (sym forced.0) (Contains-append_right old.literals (other ∷ []) other (first other [])))
+            is,
+          );
+        refuted = λ f. absurd (false≢true (sym f ∙ fits));
       },
     )
 

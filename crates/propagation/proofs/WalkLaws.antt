@@ -104,7 +104,7 @@ module _ (clauses : List (List Lit)) (literal : Lit) (variables : ℕ) (watched0
     pub from-spare : from ≢ spare
     from-spare e = let low = code-below variables literal literal_in in omega arith
 
-    falsified : Contains trail.literals (negation literal)
+    pub falsified : Contains trail.literals (negation literal)
     falsified = growth-within clauses trail0 trail is.growth (negation literal) is_false
 
     -- ---- a step
@@ -146,7 +146,10 @@ module _ (clauses : List (List Lit)) (literal : Lit) (variables : ℕ) (watched0
       partner-in : partner entry < length watched
       partner-in = let i = entry-watched in let s = is.inside.0 in let p = partner-inside (length clauses) entry (omega arith) in omega arith
 
-      other-there : Contains clause other
+      pub literal-there : Contains clause literal
+      literal-there = subst (Contains clause) watches-it (is.inside.1 entry entry-watched)
+
+      pub other-there : Contains clause other
       other-there = subst (λ k. Contains (get_or clauses k []) other) (partner-clause entry) (is.inside.1 (partner entry) partner-in)
 
       module _ (to : ℕ) (to_in : to < length heads) (apart : from ≢ to) where

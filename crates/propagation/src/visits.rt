@@ -1,5 +1,6 @@
 //! What becomes of a clause when a literal that it watches is false.
 ghost use Rattle.std.specs.Prelude.{◌≡◌, ◌<◌, ◌↔◌, All, Contains, IsTrue};
+ghost use Rattle.clauses.specs.Clause.{negation};
 ghost use Rattle.clauses.specs.Problem.{IsBelow};
 ghost use Rattle.propagation.specs.inside.Visits.{IsReplacement, IsVisit};
 
@@ -38,19 +39,28 @@ fn replacement(clause: &[Lit], other: Lit, trail: &Trail) -> Option<Lit>
     None
 }
 
-/// Looks at the clause, and brings in the other watched literal where it is forced.
-pub(crate) fn look_at(clause: &[Lit], other: Lit, trail: &mut Trail) -> Visit
+/// Looks at the clause, of which this literal is false and the other one is watched too, and brings in the other one where it
+/// is forced.
+pub(crate) fn look_at(clause: &[Lit], literal: Lit, other: Lit, trail: &mut Trail) -> Visit
     requires clause { All (IsBelow trail.old.variables) clause.now }
-    requires other { other.var < trail.old.variables }
+    requires literal_in { Contains clause.now literal }
+    requires other_in { Contains clause.now other }
+    requires is_false { Contains trail.old.literals (negation literal) }
     ensures { IsVisit trail.old trail.new clause.now other result }
 {
     if trail.is_true(other) {
         return Visit::Stays;
     }
-    if let Some(literal) = replacement(clause, other, trail) {
-        return Visit::Moves(literal);
+    let falls = trail.is_false(other);
+    // a clause of two has no third literal, so its literals needn't be read
+    if clause.len() == 2 && !falls {
+        trail.put(other);
+        return Visit::Stays;
     }
-    if trail.is_false(other) {
+    if let Some(found) = replacement(clause, other, trail) {
+        return Visit::Moves(found);
+    }
+    if falls {
         return Visit::Refuted;
     }
     trail.put(other);

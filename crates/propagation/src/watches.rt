@@ -121,7 +121,15 @@ impl Watches {
         let mut fits = true;
         while self.heads[from] != NOTHING {
             let entry = self.heads[from];
-            let to = step(clauses, &mut self.watched, entry, trail, spare, &mut fits);
+            let to = step(
+                clauses,
+                &mut self.watched,
+                entry,
+                literal,
+                trail,
+                spare,
+                &mut fits,
+            );
             shift(&mut self.heads, &mut self.next, from, to);
         }
         self.heads[from] = self.heads[spare];
@@ -138,11 +146,13 @@ fn partner(entry: usize) -> usize
     entry + 1 - 2 * (entry % 2)
 }
 
-/// Looks at the clause of the entry, unless one is refuted already, and answers to which slot the entry goes.
+/// Looks at the clause of the entry, which watches the literal, unless one is refuted already, and answers to which slot the
+/// entry goes.
 fn step(
     clauses: &[Clause],
     watched: &mut [Lit],
     entry: usize,
+    literal: Lit,
     trail: &mut Trail,
     spare: usize,
     fits: &mut bool,
@@ -150,14 +160,16 @@ fn step(
     requires entry { entry < length watched.old }
     requires sized { length watched.old ≡ 2 * length clauses.now }
     requires clauses { All (All (IsBelow trail.old.variables)) clauses.now }
-    requires watched { All (IsBelow trail.old.variables) watched.old }
+    requires literal_in { Contains (slice_index_or clauses.now (entry / 2) []) literal }
+    requires other_in { Contains (slice_index_or clauses.now (entry / 2) []) (watched_at watched.old (partner entry)) }
+    requires is_false { Contains trail.old.literals (negation literal) }
     ensures { IsStep spare entry (slice_index_or clauses.now (entry / 2) []) (watched_at watched.old (partner entry)) watched.old watched.new trail.old trail.new fits.old fits.new result }
 {
     if !*fits {
         return spare;
     }
     let other = watched[partner(entry)];
-    match look_at(clauses[entry / 2].as_slice(), other, trail) {
+    match look_at(clauses[entry / 2].as_slice(), literal, other, trail) {
         Visit::Stays => spare,
         Visit::Moves(found) => {
             watched[entry] = found;

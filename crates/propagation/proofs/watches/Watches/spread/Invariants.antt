@@ -4,11 +4,11 @@ use Rattle.propagation.proofs.ChainLaws.{chain_count}
 use Rattle.propagation.proofs.WalkLaws.{IsWalk}
 use Rattle.propagation.proofs.watches.Watches.spread.Given as goal
 
-abbrev pub invariant-loop-self : goal.invariant-loop-self
-invariant-loop-self l = record {
+abbrev pub invariant-loop-literal : goal.invariant-loop-literal
+invariant-loop-literal l = record {
   same : l.self-inside.variables ≡ l.initial.self-inside.variables;
   walk : IsWalk l.clauses l.fn.literal l.initial.self-inside.variables l.initial.self-inside.watched.items l.initial.trail l.self-inside.heads.items l.self-inside.next.items l.self-inside.watched.items l.trail l.fits;
 }
 
-abbrev pub decreases-loop-self : goal.decreases-loop-self
-decreases-loop-self l = chain_count l.self-inside.next.items (length l.self-inside.next.items) (get_or l.self-inside.heads.items (code_of l.fn.literal) 0)
+abbrev pub decreases-loop-literal : goal.decreases-loop-literal
+decreases-loop-literal l = chain_count l.self-inside.next.items (length l.self-inside.next.items) (get_or l.self-inside.heads.items (code_of l.fn.literal) 0)
