@@ -344,10 +344,10 @@ shown-learned t decisions clause is =
       is.0,
       is.1,
       ⊎_elim
-      (λ (none : is.0 ≡ []). inl none)
-      (λ (clashes : IsTrue (clash (with_tried t t.tried))).
-      inr (clash-among (with_tried t t.tried) (with_tried now t.tried) (part-among (with_tried t t.tried) (with_tried now t.tried) (learned-more t clause t.tried)) clashes))
-      is.2,
+          (λ (none : is.0 ≡ []). inl none)
+          (λ (clashes : IsTrue (clash (with_tried t t.tried))).
+          inr (clash-among (with_tried t t.tried) (with_tried now t.tried) (part-among (with_tried t t.tried) (with_tried now t.tried) (learned-more t clause t.tried)) clashes))
+          is.2,
     )
 
 -- an untried decision is a new one
