@@ -221,6 +221,13 @@ impl<'a> Propagator<'a> {
         self.problem
     }
 
+    /// The literals that are assumed, in their order.
+    pub fn assumed(&self) -> &[Lit]
+        ensures { result.now ≡ self.now.assumed }
+    {
+        self.assumed.as_slice()
+    }
+
     /// The learned clauses so far, in their order.
     pub fn learned(&self) -> &Clauses
         ensures { result.now ≡ self.now.learned }

@@ -6,7 +6,7 @@ use Rattle.std.specs.Option.{is_some, option_eq}
 use Rattle.std.proofs.Math.Bool.{beq}
 use Rattle.std.proofs.lemmas.Bool.{false≢true, true≢false, cases_eq, lt-ltb, ltb-false, eqb-true}
 use Rattle.std.proofs.lemmas.List.{append-nil, map-append, map_push, get_or-reverse, length-reverse, length_push, take_all}
-use Rattle.std.proofs.lemmas.List.Elements.{All-cons, All-push, All-contains, Contains-append_left, Contains-get_or}
+use Rattle.std.proofs.lemmas.List.Elements.{All-cons, All-push, All-contains, Contains-append_left, Contains-append_right, Contains-append_cases, Contains-get_or}
 use Rattle.pref_sets.specs.Greedy.{IsGreedy}
 use Rattle.pref_sets.specs.Trimmed.{IsTrimmed, trimmed_of, without_item}
 use Rattle.pref_sets.specs.Preferred.{IsDistinct, IsWithin}
@@ -19,6 +19,7 @@ use Rattle.clauses.specs.Search.{Turn, all_with, some_without, needed_decisions,
 use Rattle.lists.proofs.Members.{none, first, later, first_or_later, from_filter}
 use Rattle.clauses.proofs.Cuts.{cut-distinct, cut-within}
 use Rattle.clauses.proofs.TurnLaws.{IsTurn, answers, decides, refutes, gives_up, adds_clause, turn_is}
+use Rattle.clauses.proofs.LeastLaws.{clash-among}
 use Rattle.clauses.proofs.Literals.{has-more}
 use Rattle.clauses.proofs.TrimmedLaws.{closure-more, trimmed-within}
 use Rattle.propagation.specs.Propagation.{value_of}
@@ -26,7 +27,7 @@ use Rattle.propagation.proofs.ValueLaws.{clash-same, value-same, part-among}
 use Rattle.propagation.proofs.GrowthLaws.{there, back}
 use Rattle.solver.specs.inside.TestLaws.{more-clash}
 use Rattle.solver.specs.inside.Trials.{Trying, with_tried, variables_in, Clashes}
-use Rattle.solver.specs.inside.Searching.{AreSettled, Searching, is_open, standing, clauses_of, all_under, turn_of, IsShown, IsSearch}
+use Rattle.solver.specs.inside.Searching.{AreSettled, AreShown, Searching, is_open, standing, clauses_of, all_under, turn_of, IsShown, IsSearch}
 use Rattle.lists.proofs.Distinct.{distinct-push}
 
 -- ---- what is tried, in the order of the definition of the search
@@ -303,6 +304,15 @@ search-decides t decisions allowance settled v is below new low tried = record {
       (with-more t.first (clauses_of t ++ t.learned) decisions v) x (low x l);
 }
 
+-- the decisions cut
+pub search-cut : (t : Trying) (decisions : List ℕ) (allowance settled : ℕ) → IsSearch t decisions allowance settled → (order tried : List ℕ) → IsSearch (record t { tried = tried }) (cut_after decisions order) allowance 0
+search-cut t decisions allowance settled is order tried = record {
+  allowed = is.allowed;
+  distinct = cut-distinct decisions order is.distinct;
+  below = within-below t.problem.variables decisions (cut_after decisions order) is.below (cut-within decisions order);
+  settled_below = λ v l. absurd (omega arith);
+}
+
 -- a clause learned, and the decisions cut
 pub search-learns : (t : Trying) (decisions : List ℕ) (allowance settled : ℕ) → IsSearch t decisions allowance settled → length t.learned < allowance → (clause : List Lit) (order tried : List ℕ)
     → IsSearch (record t { learned = t.learned ++ clause ∷ []; tried = tried }) (cut_after decisions order) allowance 0
@@ -312,6 +322,33 @@ search-learns t decisions allowance settled is allowed clause order tried = reco
   below = within-below t.problem.variables decisions (cut_after decisions order) is.below (cut-within decisions order);
   settled_below = λ v l. absurd (omega arith);
 }
+
+-- what is shown stays so with a clause more
+learned-more : (t : Trying) (clause : List Lit) (set : List ℕ) (c : List Lit) → Contains (with_tried t set) c → Contains (with_tried (record t { learned = t.learned ++ clause ∷ [] }) set) c
+learned-more t clause set c m =
+    let units : List (List Lit) = map unit_of (t.fixed ++ map (literal_with t.first) set) in
+    let more : List (List Lit) = t.learned ++ clause ∷ [] in
+    ⊎_elim
+    (λ (old : Contains (t.problem.clauses ++ t.learned) c).
+    Contains-append_left (t.problem.clauses ++ more) units c
+    (⊎_elim
+    (λ (own : Contains t.problem.clauses c). Contains-append_left t.problem.clauses more c own)
+    (λ (learned : Contains t.learned c). Contains-append_right t.problem.clauses more c (Contains-append_left t.learned (clause ∷ []) c learned))
+    (Contains-append_cases t.problem.clauses t.learned c old)))
+    (λ (unit : Contains units c). Contains-append_right (t.problem.clauses ++ more) units c unit)
+    (Contains-append_cases (t.problem.clauses ++ t.learned) units c m)
+
+pub shown-learned : (t : Trying) (decisions : List ℕ) (clause : List Lit) → AreShown t decisions → AreShown (record t { learned = t.learned ++ clause ∷ [] }) decisions
+shown-learned t decisions clause is =
+    let now : Trying = record t { learned = t.learned ++ clause ∷ [] } in (
+      is.0,
+      is.1,
+      ⊎_elim
+          (λ (none : is.0 ≡ []). inl none)
+          (λ (clashes : IsTrue (clash (with_tried t t.tried))).
+          inr (clash-among (with_tried t t.tried) (with_tried now t.tried) (part-among (with_tried t t.tried) (with_tried now t.tried) (learned-more t clause t.tried)) clashes))
+          is.2,
+    )
 
 -- an untried decision is a new one
 pub distinct-next : (decisions : List ℕ) (i d : ℕ) → IsDistinct decisions → i < length decisions → ¬ Contains (take i decisions) (get_or decisions i d)

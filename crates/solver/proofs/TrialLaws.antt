@@ -1,9 +1,9 @@
 -- Variables that are tried as false: what clashes with more of them, and with those that are false already.
-use Rattle.std.proofs.Common.{◌≡◌, ◌∙◌, refl, sym, ap, subst, ⊎_elim, ℕ, ◌+◌, ◌<◌, ◌≤◌, Bool, true, false, cond, List, [], ◌∷◌, ◌++◌, length, map, take, drop, get_or, All, append_assoc, arith}
+use Rattle.std.proofs.Common.{◌≡◌, ◌∙◌, refl, sym, ap, subst, ⊎_elim, ℕ, ◌+◌, ◌<◌, ◌≤◌, Bool, true, false, cond, zero, suc, List, [], ◌∷◌, ◌++◌, length, map, take, drop, get_or, All, append_assoc, arith}
 use Rattle.std.specs.Prelude.{Contains, nat_lt, None}
 use Rattle.std.proofs.lemmas.Bool.{false≢true, lt-ltb, le-ltb}
-use Rattle.std.proofs.lemmas.List.{take_more, take-append-drop, take-append-le, drop-append-le, length_push, map_push}
-use Rattle.std.proofs.lemmas.List.Elements.{filter-append, All-push, Contains-append_left, Contains-append_right, Contains-append_cases}
+use Rattle.std.proofs.lemmas.List.{take_more, take-append-drop, take-append-le, take-take, take-map, drop-append-le, drop-take, length_push, length-map, length-take, get_or-map, map_push}
+use Rattle.std.proofs.lemmas.List.Elements.{filter-append, All-contains, All-push, All-take, Contains-append_left, Contains-append_right, Contains-append_cases}
 use Rattle.lists.specs.Distinct.{IsDistinct}
 use Rattle.lists.proofs.Distinct.{distinct-push}
 use Rattle.lists.proofs.Members.{none, first, first_or_later, from_map, to_map, from_filter, to_filter}
@@ -16,7 +16,7 @@ use Rattle.clauses.proofs.TrimmedLaws.{clash-from_refuted, refuted-from_clash}
 use Rattle.clauses.proofs.LeastLaws.{closure-closed, closure-least, unit-closed}
 use Rattle.propagation.specs.Propagation.{Propagation, all_of, propagated, value_of}
 use Rattle.propagation.specs.Room.{HasRoom, IsMadeTrue}
-use Rattle.propagation.proofs.RoomLaws.{new-variable, room-for}
+use Rattle.propagation.proofs.RoomLaws.{distinct-few, new-variable, room-for}
 use Rattle.propagation.proofs.ValueLaws.{one_sign}
 use Rattle.solver.specs.inside.TestLaws.{more-closed, more-clash, same-transitive}
 use Rattle.solver.specs.inside.Trials.{Trying, with_tried, variables_in, Clashes, SameButTried, IsTrial, tried_of}
@@ -163,10 +163,10 @@ clashes-same a b same set =
     ap (λ (p : ClauseProblem). clash (with_tried b (variables_in p set))) same.0 ∙ ap clash (with_tried-same a b same (variables_in a.problem set)) in
     ((λ c. sym equal ∙ c), (λ c. equal ∙ c))
 
--- the variables of the set have the first value, and they don't clash: some of them are tried
-pub record IsTried (start at : Trying) (set : List ℕ) : Type 0 where
+-- the variables of a part of the set have the first value, and they don't clash: what is tried is within the whole set
+pub record IsTried (start at : Trying) (whole set : List ℕ) : Type 0 where
   pub same : SameButTried start at
-  pub within : IsWithin at.tried (variables_in start.problem set)
+  pub within : IsWithin at.tried (variables_in start.problem whole)
   pub valued : (v : ℕ) → Contains (variables_in start.problem set) v → Contains (closure (with_tried at at.tried)) (literal_with at.first v)
   pub no_clash : clash (with_tried at at.tried) ≡ false
 
@@ -174,10 +174,11 @@ module _ (start : Trying) where
   abbrev variables : List ℕ → List ℕ
   variables set = variables_in start.problem set
 
-  pub tried-start : (at : Trying) → at ≡ record start { tried = [] } → clash (with_tried at at.tried) ≡ false → IsTried start at []
-  tried-start at e no_clash = record {
+  -- what is kept of what was tried begins
+  pub tried-start : (at : Trying) (kept whole : List ℕ) → at ≡ record start { tried = kept } → IsWithin kept (variables_in start.problem whole) → clash (with_tried at at.tried) ≡ false → IsTried start at whole []
+  tried-start at kept whole e within no_clash = record {
     same = (ap (λ (s : Trying). s.problem) e, ap (λ (s : Trying). s.learned) e, ap (λ (s : Trying). s.fixed) e, ap (λ (s : Trying). s.first) e);
-    within = (λ v m. absurd (none v (subst (λ (s : Trying). Contains s.tried v) e m)));
+    within = (λ v m. within v (subst (λ (s : Trying). Contains s.tried v) e m));
     valued = (λ v m. absurd (none v m));
     no_clash = no_clash;
   }
@@ -185,21 +186,26 @@ module _ (start : Trying) where
   variables-push : (set : List ℕ) (x : ℕ) → variables (set ++ x ∷ []) ≡ variables set ++ variables (x ∷ [])
   variables-push set x = filter-append (λ number. nat_lt number start.problem.variables) set (x ∷ [])
 
-  module _ (old new : Trying) (set : List ℕ) (x : ℕ) (before : IsTried start old set) where
+  module _ (old new : Trying) (whole set : List ℕ) (x : ℕ) (inside : IsWithin (set ++ x ∷ []) whole) (before : IsTried start old whole set) where
     here : variables_in old.problem (x ∷ []) ≡ variables (x ∷ [])
     here = ap (λ (p : ClauseProblem). variables_in p (x ∷ [])) before.same.0
 
+    -- what is tried, and one more of the set, are within it
+    one-within : IsWithin (old.tried ++ variables_in old.problem (x ∷ [])) (variables whole)
+    one-within v m =
+        ⊎_elim
+        (λ (o : Contains old.tried v). before.within v o)
+        (λ (n : Contains (variables_in old.problem (x ∷ [])) v).
+        let of = from_filter (λ number. nat_lt number start.problem.variables) (x ∷ []) v (subst (λ vs. Contains vs v) here n) in
+        to_filter (λ number. nat_lt number start.problem.variables) whole v (inside v (Contains-append_right set (x ∷ []) v of.0)) of.1)
+        (Contains-append_cases old.tried (variables_in old.problem (x ∷ [])) v m)
+
     pub tried-next : SameButTried old new → IsWithin new.tried (old.tried ++ variables_in old.problem (x ∷ [])) → IsWithin old.tried new.tried
         → ((v : ℕ) → Contains (variables_in old.problem (x ∷ [])) v → Contains (closure (with_tried new new.tried)) (literal_with old.first v))
-        → clash (with_tried new new.tried) ≡ false → IsTried start new (set ++ x ∷ [])
+        → clash (with_tried new new.tried) ≡ false → IsTried start new whole (set ++ x ∷ [])
     tried-next same within more valued no_clash = record {
       same = same-transitive start old new before.same same;
-      within = (λ v m.
-          subst (λ vs. Contains vs v) (sym (variables-push set x))
-          (⊎_elim
-          (λ (o : Contains old.tried v). Contains-append_left (variables set) (variables (x ∷ [])) v (before.within v o))
-          (λ (n : Contains (variables_in old.problem (x ∷ [])) v). Contains-append_right (variables set) (variables (x ∷ [])) v (subst (λ vs. Contains vs v) here n))
-          (Contains-append_cases old.tried (variables_in old.problem (x ∷ [])) v (within v m))));
+      within = (λ v m. one-within v (within v m));
       valued = (λ v m.
           ⊎_elim
           (λ (o : Contains (variables set) v).
@@ -212,24 +218,16 @@ module _ (start : Trying) where
       no_clash = no_clash;
     }
 
-    -- where one more clashes, a set that has them all does
-    pub tried-clash : (whole : List ℕ) → IsWithin (set ++ x ∷ []) whole → clash (with_tried old (old.tried ++ variables_in old.problem (x ∷ []))) ≡ true → Clashes start whole
-    tried-clash whole within e =
+    -- where one more clashes, the whole set does
+    pub tried-clash : clash (with_tried old (old.tried ++ variables_in old.problem (x ∷ []))) ≡ true → Clashes start whole
+    tried-clash e =
         (clashes-same start old before.same whole).0
-        (more-clash old (old.tried ++ variables_in old.problem (x ∷ [])) (variables_in old.problem whole) (λ v m.
-        ⊎_elim
-        (λ (o : Contains old.tried v).
-        let of = from_filter (λ number. nat_lt number start.problem.variables) set v (before.within v o) in
-        to_filter (λ number. nat_lt number old.problem.variables) whole v (within v (Contains-append_left set (x ∷ []) v of.0))
-        (ap (λ (p : ClauseProblem). nat_lt v p.variables) before.same.0 ∙ of.1))
-        (λ (n : Contains (variables_in old.problem (x ∷ [])) v).
-        let of = from_filter (λ number. nat_lt number old.problem.variables) (x ∷ []) v n in
-        to_filter (λ number. nat_lt number old.problem.variables) whole v (within v (Contains-append_right set (x ∷ []) v of.0)) of.1)
-        (Contains-append_cases old.tried (variables_in old.problem (x ∷ [])) v m))
+        (more-clash old (old.tried ++ variables_in old.problem (x ∷ [])) (variables_in old.problem whole)
+        (λ v m. subst (λ (p : ClauseProblem). Contains (variables_in p whole) v) (sym before.same.0) (one-within v m))
         e)
 
   -- and where none does, the whole set doesn't
-  pub tried-no_clash : (at : Trying) (set : List ℕ) → IsTried start at set → Clashes start set → ⊥
+  pub tried-no_clash : (at : Trying) (set : List ℕ) → IsTried start at set set → Clashes start set → ⊥
   tried-no_clash at set is c =
       let clauses = with_tried at (variables set) in
       let clashing : clash clauses ≡ true = ap clash (with_tried-same start at is.same (variables set)) ∙ c in
@@ -259,10 +257,9 @@ module _ (start : Trying) where
 
 -- ---- the loop over the set
 
--- nothing tried and a clash: every set clashes
-pub clash-start : (start at : Trying) → at ≡ record start { tried = [] } → clash (with_tried at at.tried) ≡ true → (set : List ℕ) → Clashes start set
-clash-start start at e c set =
-    more-clash start [] (variables_in start.problem set) (λ v m. absurd (none v m)) (sym (ap (λ (s : Trying). clash (with_tried s s.tried)) e) ∙ c)
+-- where what is kept clashes, the set does
+pub clash-start : (start at : Trying) (kept set : List ℕ) → at ≡ record start { tried = kept } → IsWithin kept (variables_in start.problem set) → clash (with_tried at at.tried) ≡ true → Clashes start set
+clash-start start at kept set e within c = more-clash start kept (variables_in start.problem set) within (sym (ap (λ (s : Trying). clash (with_tried s s.tried)) e) ∙ c)
 
 module _ (set : List ℕ) (i : ℕ) (inside : i < length set) where
   abbrev item : ℕ
@@ -273,5 +270,73 @@ module _ (set : List ℕ) (i : ℕ) (inside : i < length set) where
       subst (λ xs. Contains xs v) (take-append-drop (i + 1) set)
       (Contains-append_left (take (i + 1) set) (drop (i + 1) set) v (subst (λ xs. Contains xs v) (sym (take_more set i 0 inside)) m))
 
-  pub tried-push-set : (start at : Trying) → IsTried start at (take i set ++ item ∷ []) → IsTried start at (take (i + 1) set)
-  tried-push-set start at = subst (IsTried start at) (sym (take_more set i 0 inside))
+  pub tried-push-set : (start at : Trying) → IsTried start at set (take i set ++ item ∷ []) → IsTried start at set (take (i + 1) set)
+  tried-push-set start at = subst (IsTried start at set) (sym (take_more set i 0 inside))
+
+-- ---- what is kept of what was tried
+
+-- a number more of the set
+pub common-stays : (kept numbers : List ℕ) (i : ℕ) → i < length numbers → IsWithin kept (take i numbers) → IsWithin kept (take (i + 1) numbers)
+common-stays kept numbers i inside within v m =
+    subst (λ xs. Contains xs v) (sym (take_more numbers i 0 inside)) (Contains-append_left (take i numbers) (get_or numbers i 0 ∷ []) v (within v m))
+
+-- and it is that of the next literal
+pub common-next : (literals : List Lit) (d : Lit) (numbers : List ℕ) (kept i : ℕ) → kept < length literals → i < length numbers → (get_or literals kept d).var ≡ get_or numbers i 0
+    → IsWithin (take kept (map (λ (l : Lit). l.var) literals)) (take i numbers) → IsWithin (take (kept + 1) (map (λ (l : Lit). l.var) literals)) (take (i + 1) numbers)
+common-next literals d numbers kept i few inside same within v m =
+    let vars : List ℕ = map (λ (l : Lit). l.var) literals in
+    let size : length vars ≡ length literals = length-map literals (λ (l : Lit). l.var) in
+    let item : get_or vars kept 0 ≡ get_or numbers i 0 = get_or-map (λ (l : Lit). l.var) literals kept d 0 few ∙ same in
+    subst (λ xs. Contains xs v) (sym (take_more numbers i 0 inside))
+    (⊎_elim
+    (λ (old : Contains (take kept vars) v). Contains-append_left (take i numbers) (get_or numbers i 0 ∷ []) v (within v old))
+    (λ (new : Contains (get_or vars kept 0 ∷ []) v). Contains-append_right (take i numbers) (get_or numbers i 0 ∷ []) v (subst (λ x. Contains (x ∷ []) v) item new))
+    (Contains-append_cases (take kept vars) (get_or vars kept 0 ∷ []) v (subst (λ xs. Contains xs v) (take_more vars kept 0 (omega arith)) m)))
+
+keep-distinct : (n : ℕ) (xs : List ℕ) → IsDistinct xs → IsDistinct (take n xs)
+keep-distinct zero xs d = tt
+keep-distinct (suc n) [] d = tt
+keep-distinct (suc n) (x ∷ xs) d = ((λ m. d.0 (in_take n xs x m)), keep-distinct n xs d.1)
+  where
+    in_take : (k : ℕ) (ys : List ℕ) (y : ℕ) → Contains (take k ys) y → Contains ys y
+    in_take k ys y m = subst (λ zs. Contains zs y) (take-append-drop k ys) (Contains-append_left (take k ys) (drop k ys) y m)
+
+module _ (problem : ClauseProblem) (first : Bool) (at : Propagation) (fixed count : ℕ) (is : IsTrial problem first at fixed) where
+  abbrev shorter : Propagation
+  shorter = record at { assumed = take (fixed + count) at.assumed }
+
+  -- no more are tried than there are variables
+  pub few-tried : fixed + length (tried_of at fixed) ≤ 1004096
+  few-tried =
+      let few = distinct-few problem.variables (tried_of at fixed) is.distinct is.below in
+      let most = is.lawful.few_variables in
+      let fixed_few = is.few in
+      omega arith
+
+  pub tried-shorter : tried_of shorter fixed ≡ take count (tried_of at fixed)
+  tried-shorter = ap (map (λ (l : Lit). l.var)) (drop-take fixed count at.assumed) ∙ sym (take-map (λ (l : Lit). l.var) count (drop fixed at.assumed))
+
+  pub fixed-shorter : take fixed (take (fixed + count) at.assumed) ≡ take fixed at.assumed
+  fixed-shorter = take-take fixed (fixed + count) at.assumed (omega arith)
+
+  pub trial-shorter : IsTrial problem first shorter fixed
+  trial-shorter = record {
+    same_problem = is.same_problem;
+    lawful = is.lawful;
+    within = (let size = length-take (fixed + count) at.assumed in let w = is.within in omega arith);
+    few = is.few;
+    valued = drop-take fixed count at.assumed ∙ ap (take count) is.valued ∙ take-map (literal_with first) count (tried_of at fixed) ∙ ap (map (literal_with first)) (sym tried-shorter);
+    distinct = subst IsDistinct (sym tried-shorter) (keep-distinct count (tried_of at fixed) is.distinct);
+    below = subst (All (λ x. x < problem.variables)) (sym tried-shorter) (All-take (λ x. x < problem.variables) count (tried_of at fixed) is.below);
+  }
+
+  pub shown-shorter : shown_by problem first shorter fixed ≡ record (shown_by problem first at fixed) { tried = take count (tried_of at fixed) }
+  shown-shorter =
+      ap (λ stays. record { problem = problem; learned = at.learned; fixed = stays; tried = tried_of shorter fixed; first = first }) fixed-shorter
+      ∙ ap (λ (tried : List ℕ). record { problem = problem; learned = at.learned; fixed = take fixed at.assumed; tried = tried; first = first }) tried-shorter
+
+  -- a part of them that is within a set is within the set's variables
+  pub kept-within : (set : List ℕ) → IsWithin (take count (tried_of at fixed)) set → IsWithin (take count (tried_of at fixed)) (variables_in problem set)
+  kept-within set within v m =
+      to_filter (λ number. nat_lt number problem.variables) set v (within v m)
+      (lt-ltb v problem.variables (All-contains (λ x. x < problem.variables) (take count (tried_of at fixed)) v (All-take (λ x. x < problem.variables) count (tried_of at fixed) is.below) m))

@@ -36,6 +36,8 @@ pub(crate) struct Search<'a> {
     allowance: u64,
     /// No variable below this one is open, so the search for the lowest goes on from here.
     settled: u32,
+    /// What was learned last, kept for its room.
+    clause: Vec<Lit>,
 }
 
 impl<'a> Model for Search<'a> {
@@ -58,6 +60,7 @@ impl<'a> Search<'a> {
             decisions: Vec::new(alloc),
             allowance: 0,
             settled: 0,
+            clause: Vec::new(alloc),
         })
     }
 
@@ -165,12 +168,12 @@ impl<'a> Search<'a> {
             return Ok(Some(Ending::Limit));
         }
         let trimmed = trim(alloc, &mut self.trial, &self.decisions)?;
-        self.learn(alloc, trimmed.as_slice())?;
+        self.learn(trimmed.as_slice())?;
         Ok(None)
     }
 
-    /// Learns that these decisions don't all have the first value, and goes back to before the last of them but one.
-    fn learn(&mut self, alloc: Global, trimmed: &[u32]) -> Result<(), AllocError>
+    /// Goes back to the last but one of these decisions, and learns last that they don't all have the first value.
+    fn learn(&mut self, trimmed: &[u32]) -> Result<(), AllocError>
         requires part { IsWithin trimmed.now self.old.decisions }
         requires allowed { length self.old.trial.learned < self.old.allowance }
         ensures decisions { OnOk result (self.new.decisions ≡ cut_after self.old.decisions (reverse trimmed.now)) }
@@ -181,11 +184,11 @@ impl<'a> Search<'a> {
         ensures allowance { self.new.allowance ≡ self.old.allowance }
         ensures shown { OnOk result (IsShown self.new) }
     {
-        let clause = some_without(alloc, self.trial.first(), trimmed)?;
-        self.trial.learn(clause.as_slice())?;
         cut(&mut self.decisions, trimmed);
         self.settled = 0;
         try_all(&mut self.trial, &self.decisions);
+        some_without(&mut self.clause, self.trial.first(), trimmed)?;
+        self.trial.learn(&self.clause)?;
         Ok(())
     }
 
@@ -229,18 +232,18 @@ impl<'a> Search<'a> {
     }
 }
 
-/// The clause that says that one of the variables hasn't the value.
-fn some_without(alloc: Global, value: bool, variables: &[u32]) -> Result<Clause, AllocError>
-    ensures { IfOk result (λ clause. clause ≡ some_without value variables.now) }
+/// Writes the clause that says that one of the variables hasn't the value.
+fn some_without(clause: &mut Vec<Lit>, value: bool, variables: &[u32]) -> Result<(), AllocError>
+    ensures { OnOk result (clause.new.items ≡ some_without value variables.now) }
 {
-    let mut clause = Clause::new(alloc);
+    clause.clear();
     for variable in variables {
         clause.push(Lit {
             var: *variable,
             positive: !value,
         })?;
     }
-    Ok(clause)
+    Ok(())
 }
 
 /// Keeps the decisions up to the last of the trimmed ones but one, and none where there is no such one.

@@ -1,5 +1,5 @@
 //! Trying which decisions clash together.
-ghost use Rattle.std.specs.Prelude.{◌≡◌, ◌<◌, ℕ, [], ◌∷◌, ◌++◌, Contains, IfOk, IsFalse, IsTrue, OnErr, OnOk, All, length, not};
+ghost use Rattle.std.specs.Prelude.{◌≡◌, ◌<◌, ◌≤◌, ℕ, [], ◌∷◌, ◌++◌, Contains, IfOk, IsFalse, IsTrue, OnErr, OnOk, All, length, map, not, take};
 ghost use Rattle.pref_sets.specs.Preferred.{IsWithin};
 ghost use Rattle.clauses.specs.Clause.{literal_with};
 ghost use Rattle.clauses.specs.Closure.{clash, closure};
@@ -22,6 +22,20 @@ fn literal_with(value: bool, variable: u32) -> Lit
         var: variable,
         positive: value,
     }
+}
+
+/// How many of the literals, from the first on, have variables that stand among the numbers in their order.
+fn common(tried: &[Lit], numbers: &[u32]) -> usize
+    ensures most { result ≤ length tried.now }
+    ensures within { IsWithin (take result (map (λ literal. literal.var) tried.now)) numbers.now }
+{
+    let mut kept = 0;
+    for number in numbers {
+        if kept < tried.len() && tried[kept].var == *number {
+            kept += 1;
+        }
+    }
+    kept
 }
 
 /// A propagator whose first assumed literals stay; behind them variables are tried at the first value.
@@ -119,6 +133,23 @@ impl<'a> Trial<'a> {
         self.propagator.back_to(self.fixed);
     }
 
+    /// How many of the tried variables, from the first on, stand in the set in their order.
+    fn common_with(&self, set: &[u32]) -> usize
+        ensures most { result ≤ length self.now.tried }
+        ensures within { IsWithin (take result self.now.tried) (variables_in self.now.problem set.now) }
+    {
+        let assumed = self.propagator.assumed();
+        common(&assumed[self.fixed as usize..], set)
+    }
+
+    /// Keeps the first `count` of the tried variables.
+    fn keep(&mut self, count: usize)
+        requires { count ≤ length self.old.tried }
+        ensures { self.new ≡ record self.old { tried = take count self.old.tried } }
+    {
+        self.propagator.back_to(self.fixed + count as u32);
+    }
+
     /// Appends the clause to the learned ones.
     pub fn learn(&mut self, clause: &[Lit]) -> Result<(), AllocError>
         requires { All (IsBelow self.old.problem.variables) clause.now }
@@ -203,7 +234,8 @@ impl MonotoneTest for Trial<'_> {
     ghost transitive = { same-transitive };
 
     fn holds(&mut self, set: &[u32]) -> Result<bool, AllocError> {
-        self.reset();
+        let kept = self.common_with(set);
+        self.keep(kept);
         if self.clashes() {
             return Ok(true);
         }

@@ -5,10 +5,17 @@ use Rattle.solver.proofs.TrialLaws.{IsTried, clash-start, tried-start, tried-nex
 use Rattle.solver.proofs.trial.TrialMonotoneTest.holds.Goals as goal
 
 pub returns-then-clashes-clause-answer : goal.returns-then-clashes-clause-answer
-returns-then-clashes-clause-answer c = ((λ _. clash-start c.args.self.now c.reset.new.self c.reset.ensures (sym c.clashes.ensures ∙ c.if-clashes.true) c.args.set.now), (λ _. refl))
+returns-then-clashes-clause-answer c = (
+  (λ _.
+      clash-start c.args.self.now c.keep.new.self (take c.common_with-kept.result c.args.self.now.tried) c.args.set.now c.keep.ensures c.common_with-kept.ensures.within
+      (sym c.clashes.ensures ∙ c.if-clashes.true)),
+  (λ _. refl),
+)
 
 pub loop-number-init : goal.loop-number-init
-loop-number-init c = tried-start c.args.self.now c.reset.new.self c.reset.ensures (sym c.clashes.ensures ∙ c.if-clashes.false)
+loop-number-init c =
+    tried-start c.args.self.now c.keep.new.self (take c.common_with-kept.result c.args.self.now.tried) c.args.set.now c.keep.ensures c.common_with-kept.ensures.within
+    (sym c.clashes.ensures ∙ c.if-clashes.false)
 
 pub try_number-requires : goal.try_number-requires
 try_number-requires c = c.loop-number.invariant.no_clash
@@ -16,9 +23,9 @@ try_number-requires c = c.loop-number.invariant.no_clash
 pub returns-then-not-try_number-clause-answer : goal.returns-then-not-try_number-clause-answer
 returns-then-not-try_number-clause-answer c = (
   (λ _.
-      tried-clash c.args.self.now c.loop-number.self c.try_number.new.self (take c.loop-number.number-index c.args.set.now) (get_or c.args.set.now c.loop-number.number-index 0) c.loop-number.invariant
-      c.args.set.now
+      tried-clash c.args.self.now c.loop-number.self c.try_number.new.self c.args.set.now (take c.loop-number.number-index c.args.set.now) (get_or c.args.set.now c.loop-number.number-index 0)
       (first-within c.args.set.now c.loop-number.number-index c.loop-number-test.true)
+      c.loop-number.invariant
       (c.try_number.ensures.clash c.if-not-try_number.true)),
   (λ _. refl),
 )
@@ -33,7 +40,9 @@ returns-then-not-try_number-clause-stays c = same-transitive c.args.self.now c.l
 pub loop-number-preserved : goal.loop-number-preserved
 loop-number-preserved c =
     tried-push-set c.args.set.now c.loop-number.number-index c.loop-number-test.true c.args.self.now c.try_number.new.self
-    (tried-next c.args.self.now c.loop-number.self c.try_number.new.self (take c.loop-number.number-index c.args.set.now) (get_or c.args.set.now c.loop-number.number-index 0) c.loop-number.invariant
+    (tried-next c.args.self.now c.loop-number.self c.try_number.new.self c.args.set.now (take c.loop-number.number-index c.args.set.now) (get_or c.args.set.now c.loop-number.number-index 0)
+    (first-within c.args.set.now c.loop-number.number-index c.loop-number-test.true)
+    c.loop-number.invariant
     c.try_number.ensures.same c.try_number.ensures.within c.try_number.ensures.more
     (c.try_number.ensures.valued c.if-not-try_number.false)
     (c.try_number.ensures.no_clash c.if-not-try_number.false))
@@ -44,7 +53,7 @@ returns-clause-answer c = (
   (λ clashes.
       absurd
       (tried-no_clash c.args.self.now c.loop-number.self c.args.set.now
-      (subst (IsTried c.args.self.now c.loop-number.self) (take_all c.loop-number.number-index c.args.set.now (omega arith)) c.loop-number.invariant)
+      (subst (IsTried c.args.self.now c.loop-number.self c.args.set.now) (take_all c.loop-number.number-index c.args.set.now (omega arith)) c.loop-number.invariant)
       clashes)),
 )
 

@@ -3,4 +3,4 @@ use Rattle.solver.proofs.TrialLaws.{IsTried}
 use Rattle.solver.proofs.trial.TrialMonotoneTest.holds.Given as goal
 
 abbrev pub invariant-loop-number : goal.invariant-loop-number
-invariant-loop-number l = IsTried l.fn.self l.self (take l.number-index l.set)
+invariant-loop-number l = IsTried l.fn.self l.self l.set (take l.number-index l.set)
