@@ -204,6 +204,17 @@ impl<'a> Propagator<'a> {
         !self.state.is_rest()
     }
 
+    /// Whether the clauses, the learned ones and the first `count` assumed literals clash.
+    pub fn clashes_within(&self, count: u32) -> bool
+        requires { count ≤ length self.now.assumed }
+        ensures { result ≡ clash (propagated (record self.now { assumed = take count self.now.assumed })) }
+    {
+        if (count as usize) < self.marks.len() {
+            return false;
+        }
+        !self.state.is_rest()
+    }
+
     /// The value that the closure gives the variable, if any.
     pub fn value(&self, var: u32) -> Option<bool>
         requires no_clash { IsFalse (clash (propagated self.now)) }

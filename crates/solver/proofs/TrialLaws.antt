@@ -175,12 +175,12 @@ module _ (start : Trying) where
   variables set = variables_in start.problem set
 
   -- what is kept of what was tried begins
-  pub tried-start : (at : Trying) (kept whole : List ℕ) → at ≡ record start { tried = kept } → IsWithin kept (variables_in start.problem whole) → clash (with_tried at at.tried) ≡ false → IsTried start at whole []
+  pub tried-start : (at : Trying) (kept whole : List ℕ) → at ≡ record start { tried = kept } → IsWithin kept (variables_in start.problem whole) → clash (with_tried start kept) ≡ false → IsTried start at whole []
   tried-start at kept whole e within no_clash = record {
     same = (ap (λ (s : Trying). s.problem) e, ap (λ (s : Trying). s.learned) e, ap (λ (s : Trying). s.fixed) e, ap (λ (s : Trying). s.first) e);
     within = (λ v m. within v (subst (λ (s : Trying). Contains s.tried v) e m));
     valued = (λ v m. absurd (none v m));
-    no_clash = no_clash;
+    no_clash = ap (λ (s : Trying). clash (with_tried s s.tried)) e ∙ no_clash;
   }
 
   variables-push : (set : List ℕ) (x : ℕ) → variables (set ++ x ∷ []) ≡ variables set ++ variables (x ∷ [])
@@ -257,9 +257,18 @@ module _ (start : Trying) where
 
 -- ---- the loop over the set
 
--- where what is kept clashes, the set does
-pub clash-start : (start at : Trying) (kept set : List ℕ) → at ≡ record start { tried = kept } → IsWithin kept (variables_in start.problem set) → clash (with_tried at at.tried) ≡ true → Clashes start set
-clash-start start at kept set e within c = more-clash start kept (variables_in start.problem set) within (sym (ap (λ (s : Trying). clash (with_tried s s.tried)) e) ∙ c)
+-- where what is kept of it clashes, the set does
+pub clash-start : (start : Trying) (kept set : List ℕ) → IsWithin kept (variables_in start.problem set) → clash (with_tried start kept) ≡ true → Clashes start set
+clash-start start kept set within = more-clash start kept (variables_in start.problem set) within
+
+-- and where the whole of it is kept, the set clashes only if that does
+pub clash-whole : (start : Trying) (kept set : List ℕ) → set ≡ kept → clash (with_tried start kept) ≡ false → Clashes start set → ⊥
+clash-whole start kept set e no_clash clashes =
+    false≢true
+    (sym no_clash
+    ∙ more-clash start (variables_in start.problem set) kept
+    (λ v m. subst (λ xs. Contains xs v) e (from_filter (λ number. nat_lt number start.problem.variables) set v m).0)
+    clashes)
 
 module _ (set : List ℕ) (i : ℕ) (inside : i < length set) where
   abbrev item : ℕ
@@ -292,6 +301,15 @@ common-next literals d numbers kept i few inside same within v m =
     (λ (old : Contains (take kept vars) v). Contains-append_left (take i numbers) (get_or numbers i 0 ∷ []) v (within v old))
     (λ (new : Contains (get_or vars kept 0 ∷ []) v). Contains-append_right (take i numbers) (get_or numbers i 0 ∷ []) v (subst (λ x. Contains (x ∷ []) v) item new))
     (Contains-append_cases (take kept vars) (get_or vars kept 0 ∷ []) v (subst (λ xs. Contains xs v) (take_more vars kept 0 (omega arith)) m)))
+
+-- all of the numbers so far, and one more
+pub common-all : (literals : List Lit) (d : Lit) (numbers : List ℕ) (kept i : ℕ) → kept < length literals → i < length numbers → (get_or literals kept d).var ≡ get_or numbers i 0
+    → take i numbers ≡ take kept (map (λ (l : Lit). l.var) literals) → take (i + 1) numbers ≡ take (kept + 1) (map (λ (l : Lit). l.var) literals)
+common-all literals d numbers kept i few inside same all =
+    let vars : List ℕ = map (λ (l : Lit). l.var) literals in
+    let size : length vars ≡ length literals = length-map literals (λ (l : Lit). l.var) in
+    let item : get_or vars kept 0 ≡ get_or numbers i 0 = get_or-map (λ (l : Lit). l.var) literals kept d 0 few ∙ same in
+    take_more numbers i 0 inside ∙ ap (λ xs. xs ++ get_or numbers i 0 ∷ []) all ∙ ap (λ x. take kept vars ++ x ∷ []) (sym item) ∙ sym (take_more vars kept 0 (omega arith))
 
 keep-distinct : (n : ℕ) (xs : List ℕ) → IsDistinct xs → IsDistinct (take n xs)
 keep-distinct zero xs d = tt
@@ -334,6 +352,13 @@ module _ (problem : ClauseProblem) (first : Bool) (at : Propagation) (fixed coun
   shown-shorter =
       ap (λ stays. record { problem = problem; learned = at.learned; fixed = stays; tried = tried_of shorter fixed; first = first }) fixed-shorter
       ∙ ap (λ (tried : List ℕ). record { problem = problem; learned = at.learned; fixed = take fixed at.assumed; tried = tried; first = first }) tried-shorter
+
+  -- its clauses are those with what is kept
+  pub kept-propagated : clash (propagated shorter) ≡ clash (with_tried (shown_by problem first at fixed) (take count (tried_of at fixed)))
+  kept-propagated =
+      ap clash (shown-propagated problem first shorter fixed trial-shorter)
+      ∙ ap (λ stays. clash (all_of problem.clauses at.learned (stays ++ map (literal_with first) (tried_of shorter fixed)))) fixed-shorter
+      ∙ ap (λ tried. clash (all_of problem.clauses at.learned (take fixed at.assumed ++ map (literal_with first) tried))) tried-shorter
 
   -- a part of them that is within a set is within the set's variables
   pub kept-within : (set : List ℕ) → IsWithin (take count (tried_of at fixed)) set → IsWithin (take count (tried_of at fixed)) (variables_in problem set)

@@ -28,6 +28,7 @@ fn literal_with(value: bool, variable: u32) -> Lit
 fn common(tried: &[Lit], numbers: &[u32]) -> usize
     ensures most { result ≤ length tried.now }
     ensures within { IsWithin (take result (map (λ literal. literal.var) tried.now)) numbers.now }
+    ensures whole { result ≡ length numbers.now → numbers.now ≡ take result (map (λ literal. literal.var) tried.now) }
 {
     let mut kept = 0;
     for number in numbers {
@@ -137,9 +138,18 @@ impl<'a> Trial<'a> {
     fn common_with(&self, set: &[u32]) -> usize
         ensures most { result ≤ length self.now.tried }
         ensures within { IsWithin (take result self.now.tried) (variables_in self.now.problem set.now) }
+        ensures whole { result ≡ length set.now → set.now ≡ take result self.now.tried }
     {
         let assumed = self.propagator.assumed();
         common(&assumed[self.fixed as usize..], set)
+    }
+
+    /// Whether the first `count` of the tried variables clash.
+    fn clashes_with(&self, count: usize) -> bool
+        requires { count ≤ length self.now.tried }
+        ensures { result ≡ clash (with_tried self.now (take count self.now.tried)) }
+    {
+        self.propagator.clashes_within(self.fixed + count as u32)
     }
 
     /// Keeps the first `count` of the tried variables.
@@ -235,10 +245,13 @@ impl MonotoneTest for Trial<'_> {
 
     fn holds(&mut self, set: &[u32]) -> Result<bool, AllocError> {
         let kept = self.common_with(set);
-        self.keep(kept);
-        if self.clashes() {
+        if self.clashes_with(kept) {
             return Ok(true);
         }
+        if kept == set.len() {
+            return Ok(false);
+        }
+        self.keep(kept);
         for number in set {
             if !self.try_number(*number) {
                 return Ok(true);

@@ -1,21 +1,28 @@
 use Rattle.std.proofs.Common.{◌∙◌, refl, sym, take, get_or, subst, arith}
 use Rattle.std.proofs.lemmas.List.{take_all}
 use Rattle.solver.specs.inside.TestLaws.{same-transitive}
-use Rattle.solver.proofs.TrialLaws.{IsTried, clash-start, tried-start, tried-next, tried-clash, tried-no_clash, clashes-same, first-within, tried-push-set}
+use Rattle.solver.proofs.TrialLaws.{IsTried, clash-start, clash-whole, tried-start, tried-next, tried-clash, tried-no_clash, clashes-same, first-within, tried-push-set}
 use Rattle.solver.proofs.trial.TrialMonotoneTest.holds.Goals as goal
 
-pub returns-then-clashes-clause-answer : goal.returns-then-clashes-clause-answer
-returns-then-clashes-clause-answer c = (
-  (λ _.
-      clash-start c.args.self.now c.keep.new.self (take c.common_with-kept.result c.args.self.now.tried) c.args.set.now c.keep.ensures c.common_with-kept.ensures.within
-      (sym c.clashes.ensures ∙ c.if-clashes.true)),
+pub returns-then-clashes_with-clause-answer : goal.returns-then-clashes_with-clause-answer
+returns-then-clashes_with-clause-answer c = (
+  (λ _. clash-start c.args.self.now (take c.common_with-kept.result c.args.self.now.tried) c.args.set.now c.common_with-kept.ensures.within (sym c.clashes_with.ensures ∙ c.if-clashes_with.true)),
   (λ _. refl),
+)
+
+pub returns-then-kept-set-clause-answer : goal.returns-then-kept-set-clause-answer
+returns-then-kept-set-clause-answer c = (
+  (λ never. absurd (cc)),
+  (λ clashes.
+      absurd
+      (clash-whole c.args.self.now (take c.common_with-kept.result c.args.self.now.tried) c.args.set.now (c.common_with-kept.ensures.whole c.if-kept-set.true)
+      (sym c.clashes_with.ensures ∙ c.if-clashes_with.false) clashes)),
 )
 
 pub loop-number-init : goal.loop-number-init
 loop-number-init c =
     tried-start c.args.self.now c.keep.new.self (take c.common_with-kept.result c.args.self.now.tried) c.args.set.now c.keep.ensures c.common_with-kept.ensures.within
-    (sym c.clashes.ensures ∙ c.if-clashes.false)
+    (sym c.clashes_with.ensures ∙ c.if-clashes_with.false)
 
 pub try_number-requires : goal.try_number-requires
 try_number-requires c = c.loop-number.invariant.no_clash
