@@ -6,6 +6,8 @@
 
 mod names;
 mod seed;
+#[cfg(test)]
+mod tests;
 
 pub use names::Names;
 pub use seed::Seed;
