@@ -83,13 +83,13 @@ stays-step spare entry clause other watched old new before fits is =
       record {
         grown = ⊎_elim (λ (there : (new ≡ old) × Contains old.literals other). inl there.0) inr is;
         seen = λ t. (
-            t,
-            ⊎_elim
-            (λ (there : (new ≡ old) × Contains old.literals other). subst (λ (n : Trailing). Contains n.literals other) (sym there.0) there.1)
-            (λ (forced : (new ≡ record old { literals = old.literals ++ other ∷ [] }) × ((l : Lit) → Contains clause l → l ≢ other → Contains old.literals (negation l))).
-            subst (λ (n : Trailing). Contains n.literals other) (sym forced.0) (Contains-append_right old.literals (other ∷ []) other (first other [])))
-            is,
-          );
+          t,
+          ⊎_elim
+              (λ (there : (new ≡ old) × Contains old.literals other). subst (λ (n : Trailing). Contains n.literals other) (sym there.0) there.1)
+              (λ (forced : (new ≡ record old { literals = old.literals ++ other ∷ [] }) × ((l : Lit) → Contains clause l → l ≢ other → Contains old.literals (negation l))).
+              subst (λ (n : Trailing). Contains n.literals other) (sym forced.0) (Contains-append_right old.literals (other ∷ []) other (first other [])))
+              is,
+        );
         refuted = λ f. absurd (false≢true (sym f ∙ fits));
       },
     )

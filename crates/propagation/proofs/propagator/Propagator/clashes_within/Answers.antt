@@ -1,5 +1,4 @@
-use Rattle.std.proofs.Common.{◌∙◌, sym, ap, subst, not, ℕ, ◌<◌, ◌≤◌, List, length, get_or, take, arith}
-use Rattle.clauses.specs.declared.literal.Lit.{Lit}
+use Rattle.std.proofs.Common.{◌∙◌, sym, ap, subst, not, ◌<◌, ◌≤◌, length, get_or, take, arith}
 use Rattle.clauses.specs.Closure.{clash}
 use Rattle.propagation.specs.Propagation.{Propagation, propagated}
 use Rattle.propagation.specs.declared.state.State.TheVariants as state

@@ -1,4 +1,4 @@
-use Rattle.std.proofs.Common.{◌-◌, ◌≤◌, subst, List, ℕ, Bool, length, take, drop, arith}
+use Rattle.std.proofs.Common.{◌-◌, subst, List, ℕ, Bool, length, take, drop, arith}
 use Rattle.std.proofs.lemmas.List.{length-drop, take_all}
 use Rattle.clauses.specs.declared.literal.Lit.{Lit}
 use Rattle.propagation.specs.inside.Trails.{AreUnset}

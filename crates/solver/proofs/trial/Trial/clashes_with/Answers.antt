@@ -1,8 +1,7 @@
 use Rattle.std.proofs.Common.{◌∙◌, ap, sym, subst, arith, ◌≤◌, length, take}
 use Rattle.clauses.specs.Closure.{clash}
-use Rattle.propagation.specs.Propagation.{Propagation}
 use Rattle.solver.specs.inside.Trials.{Trying, tried_of, with_tried}
-use Rattle.solver.proofs.TrialLaws.{few-tried, kept-propagated, trial-shorter}
+use Rattle.solver.proofs.TrialLaws.{few-tried, kept-propagated}
 use Rattle.solver.proofs.trial.Trial.clashes_with.Goals as goal
 
 pub overflow_cast-count : goal.overflow_cast-count
