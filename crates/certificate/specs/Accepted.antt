@@ -63,8 +63,8 @@ UnlessLimit outcome.Background P = P shown.Background
 UnlessLimit (outcome.Explained parts) P = (shown : Shown) × (shown_sets parts.kept parts.conflict ≡ Some shown) × P shown
 UnlessLimit (outcome.LimitAt part key before) P = Unit {0}
 
--- The sequential run comes to an outcome over its positions, and told the verdict of each set that the outcome's certificate
--- is about.
+-- What the sequential run comes to is over its positions, and unless it is a limit the search decides each set that the
+-- certificate of it is about.
 abbrev pub RunIsDecided : Type 0
 RunIsDecided =
     (problem : ClauseProblem) (plan : JobPlan) (found : Outcome) → result_of plan (verdicts_of problem) ≡ Some found

@@ -14,12 +14,13 @@ use req_keys::{Key, Want};
 use script::{Finished, JobPlan, Run};
 use std::alloc::{AllocError, Global};
 
-/// A job under way. Its next turn has begun and is the first of a round, or the job is done.
+/// A job under way. With workers it is before its first turn, or its next turn has begun, which between rounds is the first of one,
+/// or it is done. On one thread no turn is kept.
 #[derive(Drop)]
 pub(crate) struct Course {
     pub run: Run,
     pub posting: Posting,
-    /// What the turn orders.
+    /// What the turn that has begun orders.
     pub next: Option<Orders>,
 }
 

@@ -1,5 +1,6 @@
--- What does the jobs: a function of the problem, the plan, the number of workers and how many answers are guessed ahead. It stands
--- for a job on one thread or by workers, which come to the same.
+-- What does the jobs: a closure that is called with the problem, the plan, the number of workers and how many answers are guessed
+-- ahead. What a job finishes with is determined by all of these but the number of workers, so one closure does it on this thread and
+-- another by workers.
 use Rattle.std.specs.Prelude.{◌≡◌, ℕ, ◌≤◌, length, Some, Option, IfSome, Result, IfOk}
 use Rattle.std.specs.Borrow.{Bor}
 use Rattle.std.specs.declared.alloc.AllocError.{AllocError}

@@ -9,6 +9,7 @@ use Rattle.workers.specs.Ending.{HasEnded}
 abbrev pub IsFresh : WorkerView → Type 0
 IsFresh worker = IsIdle worker × (worker.done ≡ false)
 
--- it may leave the table
+-- how a worker hands it back: it runs nothing, and met the end of the entries without a ticket or saw the stop. Such a seat may
+-- leave the table; so may one without a ticket that has met neither
 abbrev pub IsBack : TableData → WorkerSees → Type 0
 IsBack table seat = IsWorkerOf table seat × (IsRunning seat.sees → ⊥) × HasEnded seat.sees
