@@ -75,7 +75,7 @@ fn model_of(
     let Some(tree) = tree else {
         return Err(refused(features_number(lines), Reason::NoFeatures));
     };
-    let constraints = constraints_of(alloc, &names, bytes, stated.as_slice())?;
+    let constraints = constraints_of(alloc, &names, bytes, stated.into_vec())?;
     Ok(tree.into_model(constraints))
 }
 

@@ -60,10 +60,11 @@ impl<'a> Statements<'a> {
         }
     }
 
-    pub(crate) fn as_slice(&self) -> &[Stated<'a>]
-        ensures { result.now ≡ self.now }
+    pub(crate) fn into_vec(self) -> Vec<Stated<'a>>
+        ensures { result.items ≡ self.entry }
     {
-        self.formulas.as_slice()
+        let Statements { formulas } = self;
+        formulas
     }
 
     /// One formula more.
