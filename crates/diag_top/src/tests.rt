@@ -1,4 +1,6 @@
 //! Whole runs over a shelf and a sink in memory.
+mod rows;
+
 use super::*;
 use diag_base::{MemShelf, MemSink};
 use std::alloc::{AllocError, Global};
@@ -9,9 +11,6 @@ use std::thread::yield_now;
 
 const PHONE: &[u8] =
     b"features\n\tPhone\n\t\tmandatory\n\t\t\tScreen\n\t\t\t\talternative\n\t\t\t\t\tBasic\n\t\t\t\t\tColour\n\t\toptional\n\t\t\tCamera\n\t\t\tGPS\nconstraints\n\tCamera => Colour\n";
-
-const EXPLAINED: &[u8] =
-    b"diag 1\nmodel 6 features 1 constraints\nrequirements 3\nresult explained\ndiagnosis 1\n  2 Basic\nconflict 2\n  1 Camera\n  2 Basic\nlisting 2 size 3\n  2\n  1\nchecks 7 predicted 0 wasted 0\nend\n";
 
 fn words_of(alloc: Global, words: &[&str]) -> Result<Vec<String>, AllocError> {
     let mut all = Vec::new(alloc);
@@ -26,17 +25,6 @@ fn phone(alloc: Global) -> Result<MemShelf, AllocError> {
     shelf.set(alloc, "m", PHONE)?;
     shelf.set(alloc, "c", b"Camera\nBasic\nGPS\n")?;
     Ok(shelf)
-}
-
-#[test]
-fn the_advice_is_written(rt: HostRuntime) -> Result<(), Fail> {
-    let words = words_of(rt.alloc(), &["diagnose", "m", "c", "--list", "3"])?;
-    let mut shelf = phone(rt.alloc())?;
-    let mut sink = MemSink::new(rt.alloc(), 10_000)?;
-    let status = run_alone(rt.alloc(), words.as_slice(), &mut shelf, &mut sink);
-    assert_eq!(rt; status, Some(Status::Explained));
-    assert_eq!(rt; sink.written(), EXPLAINED);
-    Ok(())
 }
 
 const CERTIFIED: &[u8] =
@@ -110,61 +98,6 @@ fn a_certificate_follows_and_is_judged(rt: HostRuntime) -> Result<(), Fail> {
         let status = run_alone(rt.alloc(), words.as_slice(), &mut shelf, &mut sink);
         let accepted = status == Some(Status::Verified);
         assert_eq!(rt; accepted, row.text.starts_with(b"verified"));
-        assert_eq!(rt; sink.written(), row.text);
-    }
-    Ok(())
-}
-
-/// A model without a product, how many clauses a check may learn and in how many attempts, and what is written.
-#[derive(Clone, Copy)]
-struct Void {
-    model: &'static [u8],
-    allowance: &'static str,
-    rungs: &'static str,
-    text: &'static [u8],
-}
-
-#[test]
-fn no_product_is_certified(rt: HostRuntime) -> Result<(), Fail> {
-    let rows = [
-        Void {
-            model: b"features\n\tR\n\t\toptional\n\t\t\tA\n\t\t\tB\nconstraints\n\tA | B\n\tA | !B\n\t!A | B\n\t!A | !B\n",
-            allowance: "1",
-            rungs: "0",
-            text: b"diag 1\nmodel 3 features 4 constraints\nrequirements 0\nresult background\nchecks 1 predicted 0 wasted 0\nend\ncertificate 1\nbackground\nlearn 2\nclash\nend\n",
-        },
-        Void {
-            model: b"features\n\tR\n\t\toptional\n\t\t\tA\n\t\t\tB\nconstraints\n\tA | B\n\tA | !B\n\t!A | B\n\t!A | !B\n",
-            allowance: "0",
-            rungs: "0",
-            text: b"diag 1\nmodel 3 features 4 constraints\nrequirements 0\nresult limit\nlimit in all at none\nchecks 1 predicted 0 wasted 0\nend\n",
-        },
-        Void {
-            model: b"features\n\tR\n\t\toptional\n\t\t\tA\n\t\t\tB\n\t\t\tC\nconstraints\n\tA | B | C\n\tA | B | !C\n\tA | !B | C\n\tA | !B | !C\n\t!A | B | C\n\t!A | B | !C\n\t!A | !B | C\n\t!A | !B | !C\n",
-            allowance: "1",
-            rungs: "1",
-            text: b"diag 1\nmodel 4 features 8 constraints\nrequirements 0\nresult background\nchecks 1 predicted 0 wasted 0\nend\ncertificate 1\nbackground\nlearn -2 -3\nlearn -2\nlearn -3\nclash\nend\n",
-        },
-    ];
-    for row in &rows {
-        let words = words_of(
-            rt.alloc(),
-            &[
-                "diagnose",
-                "m",
-                "c",
-                "--allowance",
-                row.allowance,
-                "--certify",
-                "--rungs",
-                row.rungs,
-            ],
-        )?;
-        let mut shelf = MemShelf::new(rt.alloc());
-        shelf.set(rt.alloc(), "m", row.model)?;
-        shelf.set(rt.alloc(), "c", b"")?;
-        let mut sink = MemSink::new(rt.alloc(), 10_000)?;
-        let _status = run_alone(rt.alloc(), words.as_slice(), &mut shelf, &mut sink);
         assert_eq!(rt; sink.written(), row.text);
     }
     Ok(())
@@ -288,21 +221,27 @@ fn any_number_of_workers_writes_the_same(rt: HostRuntime) -> Result<(), Fail> {
     Ok(())
 }
 
-/// A configuration whose report is longer than a piece of 4,096 bytes: all but the first requirement are given up.
-fn long_config(alloc: Global) -> Result<Vec<u8>, AllocError> {
+/// The first bytes, and then the others so many times.
+fn repeated(
+    alloc: Global,
+    first: &[u8],
+    again: &[u8],
+    times: usize,
+) -> Result<Vec<u8>, AllocError> {
     let mut text = Vec::new(alloc);
-    text.extend_from_slice(b"GPS\n")?;
-    for _ in 0..400 {
-        text.extend_from_slice(b"!GPS\n")?;
+    text.extend_from_slice(first)?;
+    for _ in 0..times {
+        text.extend_from_slice(again)?;
     }
     Ok(text)
 }
 
+/// A report that is longer than a piece of 4,096 bytes: all but the first requirement are given up.
 #[test]
 fn a_long_text_goes_in_pieces(rt: HostRuntime) -> Result<(), Fail> {
     let words = words_of(rt.alloc(), &["diagnose", "m", "c"])?;
     let mut shelf = phone(rt.alloc())?;
-    let config = long_config(rt.alloc())?;
+    let config = repeated(rt.alloc(), b"GPS\n", b"!GPS\n", 400)?;
     shelf.set(rt.alloc(), "c", config.as_slice())?;
     let mut sink = MemSink::new(rt.alloc(), 10_000)?;
     sink.fail_on(1, 5)?;
@@ -405,29 +344,6 @@ fn a_generated_text_is_put_as_far_as_it_goes(rt: HostRuntime) -> Result<(), Fail
         assert_eq!(rt; status, Some(Status::WriteFault));
         assert_eq!(rt; sink.written().len(), row.written);
         assert!(rt; whole.written().starts_with(sink.written()));
-    }
-    Ok(())
-}
-
-const DRAWN: &[u8] =
-    b"diag 1\nmodel 5 features 1 constraints\nrequirements 1\nresult consistent\nchecks 1 predicted 0 wasted 0\nend\n";
-
-const DRAWN_MODEL: &[u8] =
-    b"features\n\tF0\n\t\toptional\n\t\t\tF1\n\t\t\tF2\n\t\t\tF3\n\t\t\tF4\nconstraints\n\tF3 => F2\n";
-
-#[test]
-fn texts_are_drawn(rt: HostRuntime) -> Result<(), Fail> {
-    for (what, text) in [
-        ("model", DRAWN_MODEL),
-        ("config", b"F3\n".as_slice()),
-        ("report", DRAWN),
-    ] {
-        let words = words_of(rt.alloc(), &["generate", "1", "4", what])?;
-        let mut shelf = MemShelf::new(rt.alloc());
-        let mut sink = MemSink::new(rt.alloc(), 1_000)?;
-        let status = run_alone(rt.alloc(), words.as_slice(), &mut shelf, &mut sink);
-        assert_eq!(rt; status, Some(Status::Generated));
-        assert_eq!(rt; sink.written(), text);
     }
     Ok(())
 }
