@@ -54,6 +54,18 @@ most_workers = refl
 pub too_many_workers : request_of (with (codes "--workers" ∷ codes "65" ∷ [])) ≡ None
 too_many_workers = refl
 
+pub workers_twice : request_of (with (codes "--workers" ∷ codes "1" ∷ codes "--workers" ∷ codes "1" ∷ [])) ≡ None
+workers_twice = refl
+
+pub workers_without_a_number : request_of (with (codes "--workers" ∷ [])) ≡ None
+workers_without_a_number = refl
+
+pub workers_with_a_zero_in_front : request_of (with (codes "--workers" ∷ codes "01" ∷ [])) ≡ None
+workers_with_a_zero_in_front = refl
+
+pub refused_workers_not_asked : asks_workers (request_of (with (codes "--workers" ∷ codes "65" ∷ []))) ≡ false
+refused_workers_not_asked = refl
+
 pub workers_asked : asks_workers (request_of (with (codes "--workers" ∷ codes "1" ∷ []))) ≡ true
 workers_asked = refl
 
