@@ -68,7 +68,7 @@ def exports(root):
 def sources(folder):
     """The files of a crate's code, tests left out."""
     for at, folders, names in os.walk(os.path.join(folder, "src")):
-        folders.sort()
+        folders[:] = sorted(it for it in folders if it != "tests")
         for name in sorted(names):
             if name.endswith(".rt") and name != "tests.rt":
                 yield os.path.join(at, name)

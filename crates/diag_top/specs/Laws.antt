@@ -1,6 +1,6 @@
 -- What holds of every run and of every outcome.
 use Rattle.std.specs.Prelude.{◌≡◌, ℕ, ◌≤◌, Contains, List, Option, Some}
-use Rattle.command_line.specs.Words.{Settings, AreAllowed}
+use Rattle.command_line.specs.Words.{Settings, AreAllowed, Diagnose, request_of}
 use Rattle.config_reader.specs.Configuration.{Configuration, IsWithin}
 use Rattle.config_reader.specs.Consistent.{AreConsistent}
 use Rattle.clause_form.specs.ClauseForm.{needed}
@@ -21,6 +21,14 @@ use Rattle.diag_top.specs.Work.{Reply}
 -- an answer is never want of memory or a fault
 abbrev pub AnswersAreNoFaults : Type 0
 AnswersAreNoFaults = (words : List (List ℕ)) (files : Files) (reply : Reply) → answer words files ≡ Some reply → IsOfAnAnswer reply.status
+
+-- command lines that differ in how many workers they ask for are answered alike
+abbrev pub WorkersChangeNothing : Type 0
+WorkersChangeNothing =
+    (words others : List (List ℕ)) (model config : List ℕ) (settings : Settings) (workers : ℕ) (files : Files)
+    → request_of words ≡ Some (Diagnose model config settings)
+    → request_of others ≡ Some (Diagnose model config (record settings { workers = workers }))
+    → answer others files ≡ answer words files
 
 -- What is found out about a configuration that isn't too large says what is so of 'some product makes the musts and these
 -- requirements true'. The second job is about `of_musts` of it.

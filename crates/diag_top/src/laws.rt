@@ -1,5 +1,5 @@
 //! What holds of every answer and of every outcome.
-ghost use Rattle.diag_top.specs.Laws.{AdviceIsRight, AnswersAreNoFaults, LimitsAreNeeded};
+ghost use Rattle.diag_top.specs.Laws.{AdviceIsRight, AnswersAreNoFaults, LimitsAreNeeded, WorkersChangeNothing};
 
 use config_reader::Config;
 use feature_tree::Model;
@@ -9,6 +9,12 @@ use script::outcome_is_right;
 /// An answer is never want of memory or a fault, so that the ends of a run exclude each other.
 pub fn answers_are_no_faults()
     ensures { AnswersAreNoFaults }
+{}
+
+/// Two command lines that differ in nothing but how many workers they ask for have the same answer over the same files, or both
+/// have none.
+pub fn workers_change_nothing()
+    ensures { WorkersChangeNothing }
 {}
 
 /// The advice in words of products. Consistent comes only where one product makes every must and every requirement true,

@@ -16,7 +16,7 @@ mod write;
 
 pub use command_line::{Command, Status, What, read_words};
 pub use diag_workers::{Gate, OpenGate};
-pub use laws::{advice_is_right, answers_are_no_faults, limits_are_needed};
+pub use laws::{advice_is_right, answers_are_no_faults, limits_are_needed, workers_change_nothing};
 pub use running::{run, run_alone};
 
 #[cfg(test)]
