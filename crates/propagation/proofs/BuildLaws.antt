@@ -13,6 +13,7 @@ use Rattle.clauses.proofs.TrimmedLaws.{clash-from_refuted}
 use Rattle.propagation.specs.Propagation.{all_of}
 use Rattle.propagation.specs.declared.state.State.TheVariants as state
 use Rattle.propagation.specs.inside.Trails.{IsOneSigned, IsTakenIn, Trailing}
+use Rattle.propagation.specs.inside.Pairing.{Pairing}
 use Rattle.propagation.specs.inside.Building.{AreWatched, HasPair}
 use Rattle.propagation.specs.inside.Levels.{AreParts, HasPropagated, HasState, IsLevel}
 use Rattle.propagation.specs.inside.Places.{IsUnit}
@@ -30,8 +31,9 @@ only-refuted set clause one unit f = All-members (λ l. Contains set (negation l
 pub refuted-more : (set clause : List Lit) → IsRefuted [] clause → IsRefuted set clause
 refuted-more set clause r = All-members (λ l. Contains set (negation l)) clause (λ l m. absurd (none (negation l) (All-contains (λ x. Contains [] (negation x)) clause l r m)))
 
-pub watched-none : (problem : ClauseProblem) (own : Watching) (trail : Trailing) → own.variables ≡ problem.variables → trail.variables ≡ problem.variables → own.watched ≡ [] → trail.literals ≡ [] → AreWatched problem [] own trail
-watched-none problem own trail a b c d = record {
+pub watched-none : (problem : ClauseProblem) (own : Watching) (trail : Trailing) → own.variables ≡ problem.variables → trail.variables ≡ problem.variables → own.watched ≡ [] → own.pairs.others ≡ [] → trail.literals ≡ [] → AreWatched problem [] own trail
+watched-none problem own trail a b c plain d = record {
+  plain = plain;
   own_of = a;
   trail_of = b;
   inside = (ap length c, (λ e i. let size = ap length c in absurd (omega arith)));
@@ -46,6 +48,7 @@ module _ (problem : ClauseProblem) (front : List (List Lit)) (own : Watching) (t
   pub watched-next : (next : Watching) (now : Trailing) → HasPair clause own next trail now → AreWatched problem (front ++ clause ∷ []) next now
   watched-next next now pair = record {
     own_of = pair.variables ∙ are.own_of;
+    plain = ap (λ (p : Pairing). p.others) pair.pairs ∙ are.plain;
     trail_of = variables ∙ are.trail_of;
     inside = subst (AreInside (front ++ clause ∷ [])) (sym pair.attached) (inside-attach front own.watched are.inside pair.one pair.other clause pair.one_in pair.other_in);
     covered =
@@ -122,11 +125,11 @@ bare clauses = append-nil (clauses ++ []) ∙ append-nil clauses
 pub dead-from : (clauses : List (List Lit)) → clash clauses ≡ true → clash (all_of clauses [] []) ≡ true
 dead-from clauses c = ap clash (bare clauses) ∙ c
 
-module _ (problem : ClauseProblem) (own own' more more' : Watching) (trail now : Trailing) (fits : Bool) (are : AreWatched problem problem.clauses own trail) (more_empty : more'.watched ≡ []) (done : HasPropagated (problem.clauses ++ []) trail now own own' more more' fits) where
+module _ (problem : ClauseProblem) (own own' more more' : Watching) (trail now : Trailing) (fits : Bool) (sounds : IsSound problem.clauses trail.literals) (more_empty : more'.watched ≡ []) (done : HasPropagated (problem.clauses ++ []) trail now own own' more more' fits) where
   sound : IsSound (all_of problem.clauses [] []) now.literals
   sound =
       done.growth.sound (all_of problem.clauses [] []) (λ c m. Contains-append_left (problem.clauses ++ []) [] c m)
-      (λ l m. subst (λ cs. Contains (closure cs) l) (sym (bare problem.clauses)) (are.sound l m))
+      (λ l m. subst (λ cs. Contains (closure cs) l) (sym (bare problem.clauses)) (sounds l m))
 
   pub begun-dead : fits ≡ false → clash (all_of problem.clauses [] []) ≡ true
   begun-dead f = refuted-clashes (all_of problem.clauses [] []) now.literals sound (problem.clauses ++ []) (λ c m. Contains-append_left (problem.clauses ++ []) [] c m) (done.refuted f)

@@ -50,6 +50,7 @@ module _ (problem : ClauseProblem) (learned : List (List Lit)) (assumed : List L
     own_of = is.parts.own_of;
     more_of = is.parts.more_of;
     own_inside = is.parts.own_inside;
+    own_paired = is.parts.own_paired;
     one_signed = is.one_signed;
     base_within = is.base_within;
     base_level = is.base_level;
@@ -84,6 +85,8 @@ module _ (problem : ClauseProblem) (learned : List (List Lit)) (assumed : List L
         learned_below = is.parts.learned_below;
         own_inside = is.parts.own_inside;
         more_inside = is.parts.more_inside;
+        own_paired = is.parts.own_paired;
+        more_plain = is.parts.more_plain;
       };
       one_signed = one_signed-within (take end trail.literals) trail.literals (take-subset end trail.literals) is.one_signed;
       few = (let s = size in let f = is.few in omega arith);

@@ -82,6 +82,7 @@ module _ (problem : ClauseProblem) (before : List (List Lit)) (clause : List Lit
             own_of = is.parts.own_of;
             more_of = is.parts.more_of;
             own_inside = is.parts.own_inside;
+            own_paired = is.parts.own_paired;
             one_signed = is.one_signed;
             base_within = is.base_within;
             base_level = is.base_level;

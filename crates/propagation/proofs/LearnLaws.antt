@@ -50,6 +50,8 @@ module _ (problem : ClauseProblem) (before : List (List Lit)) (clause : List Lit
       clauses_below = p.clauses_below;
       learned_below = All-push (All (IsBelow problem.variables)) before clause p.learned_below below;
       own_inside = p.own_inside;
+      own_paired = p.own_paired;
+      more_plain = ap (λ (w : Watching). w.pairs.others) attached ∙ p.more_plain;
       more_inside = subst (AreInside learned) (sym watched-is) (inside-attach before more.watched p.more_inside one other clause one_in other_in);
     }
 
@@ -180,6 +182,7 @@ module _ (problem : ClauseProblem) (before : List (List Lit)) (clause : List Lit
           own_of = parts.own_of;
           more_of = parts.more_of;
           own_inside = parts.own_inside;
+          own_paired = parts.own_paired;
           one_signed = one_signed;
           base_within = (let w = is.base_within in let e = ap length grown in let s = length-append trail.literals (taken-grows.0 ++ done.growth.more) in omega arith);
           base_level =

@@ -5,10 +5,13 @@ pub mod RoomLaws
 pub mod Codes
 pub mod TrailLaws
 pub mod TrailValues
+pub mod PairLaws
 pub mod ChainLaws
 pub mod ChainMoves
 pub mod WatchLaws
 pub mod WalkLaws
+pub mod SortLaws
+pub mod ApartLaws
 pub mod CoverLaws
 pub mod PropagateLaws
 pub mod LevelLaws

@@ -10,6 +10,7 @@ use Rattle.clauses.specs.Problem.{ClauseProblem}
 use Rattle.clauses.proofs.Literals.{negation-negation}
 use Rattle.propagation.specs.inside.Trails.{Trailing}
 use Rattle.propagation.specs.inside.Values.{IsPart}
+use Rattle.propagation.specs.inside.Pairing.{ArePaired, Pairing}
 use Rattle.propagation.specs.inside.Levels.{AreParts, HasPropagated}
 use Rattle.propagation.specs.inside.Watching.{AreCovered, AreInside, AreKept, IsGrowth, IsRefuted, IsSubset, Watching, partner, watched_at}
 use Rattle.propagation.proofs.ValueLaws.{Any-member, member-Any}
@@ -54,8 +55,8 @@ module _ (problem : ClauseProblem) (learned : List (List Lit)) (trail0 : Trailin
     more-part : IsPart learned all
     more-part c m = Contains-append_right problem.clauses learned c m
 
-    pub own-spread : (next : Watching) → next.variables ≡ own.variables → AreInside problem.clauses next.watched → IsGrowth problem.clauses trail now → AreKept trail.literals own.watched next.watched → IsGoing now next more
-    own-spread next same inside growth kept = record {
+    pub own-spread : (next : Watching) → next.variables ≡ own.variables → next.pairs ≡ own.pairs → AreInside problem.clauses next.watched → IsGrowth problem.clauses trail now → AreKept trail.literals own.watched next.watched → IsGoing now next more
+    own-spread next same pairs inside growth kept = record {
       parts = record {
         trail_of = growth.same ∙ is.parts.trail_of;
         own_of = same ∙ is.parts.own_of;
@@ -64,14 +65,16 @@ module _ (problem : ClauseProblem) (learned : List (List Lit)) (trail0 : Trailin
         learned_below = is.parts.learned_below;
         own_inside = inside;
         more_inside = is.parts.more_inside;
+        own_paired = subst (ArePaired problem.clauses) (sym pairs) is.parts.own_paired;
+        more_plain = is.parts.more_plain;
       };
       growth = growth-then all trail0 trail now is.growth (growth-part problem.clauses all own-part trail now growth);
       own_kept = kept-then trail0.literals trail.literals own0.watched own.watched next.watched up is.own_kept kept;
       more_kept = is.more_kept;
     }
 
-    pub more-spread : (next : Watching) → next.variables ≡ more.variables → AreInside learned next.watched → IsGrowth learned trail now → AreKept trail.literals more.watched next.watched → IsGoing now own next
-    more-spread next same inside growth kept = record {
+    pub more-spread : (next : Watching) → next.variables ≡ more.variables → next.pairs ≡ more.pairs → AreInside learned next.watched → IsGrowth learned trail now → AreKept trail.literals more.watched next.watched → IsGoing now own next
+    more-spread next same pairs inside growth kept = record {
       parts = record {
         trail_of = growth.same ∙ is.parts.trail_of;
         own_of = is.parts.own_of;
@@ -80,6 +83,8 @@ module _ (problem : ClauseProblem) (learned : List (List Lit)) (trail0 : Trailin
         learned_below = is.parts.learned_below;
         own_inside = is.parts.own_inside;
         more_inside = inside;
+        own_paired = is.parts.own_paired;
+        more_plain = ap (λ (p : Pairing). p.others) pairs ∙ is.parts.more_plain;
       };
       growth = growth-then all trail0 trail now is.growth (growth-part learned all more-part trail now growth);
       own_kept = is.own_kept;

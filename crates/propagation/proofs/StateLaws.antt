@@ -13,6 +13,7 @@ use Rattle.clauses.proofs.Literals.{from_has, has-from}
 use Rattle.propagation.specs.Propagation.{all_of, value_of}
 use Rattle.propagation.specs.declared.state.State.{State}
 use Rattle.propagation.specs.declared.state.State.TheVariants as state
+use Rattle.propagation.specs.inside.Pairing.{Pairing}
 use Rattle.propagation.specs.inside.Levels.{HasState, IsBased, IsLevel, IsStanding, IsTop, IsTopOrClashing, front, last}
 use Rattle.propagation.specs.inside.Trails.{Trailing, value_in}
 use Rattle.propagation.specs.inside.UpToDate.{is_rest}
@@ -127,9 +128,9 @@ module _ (problem : ClauseProblem) (learned : List (List Lit)) (assumed : List L
   based state.Lost is ne = is.0
   based state.Dead is ne = absurd (ne refl)
 
-  pub forgotten : (s : State) → State' s → s ≢ state.Dead → (clauses_below : All (All (IsBelow problem.variables)) problem.clauses) (clear : Watching) → clear.variables ≡ more.variables → clear.watched ≡ []
+  pub forgotten : (s : State) → State' s → s ≢ state.Dead → (clauses_below : All (All (IsBelow problem.variables)) problem.clauses) (clear : Watching) → clear.variables ≡ more.variables → clear.watched ≡ [] → clear.pairs.others ≡ []
       → HasState problem [] [] (record trail { literals = take base trail.literals }) own clear [] base state.Rests
-  forgotten s is ne clauses_below clear same empty =
+  forgotten s is ne clauses_below clear same empty plain =
       let b = based s is ne in
       let size = ap length empty in
       let n : length (take base trail.literals) ≡ base = length-take-le base trail.literals b.base_within in (
@@ -141,6 +142,8 @@ module _ (problem : ClauseProblem) (learned : List (List Lit)) (assumed : List L
             clauses_below = clauses_below;
             learned_below = (λ k d l. absurd (omega arith));
             own_inside = b.own_inside;
+            own_paired = b.own_paired;
+            more_plain = plain;
             more_inside = (size, (λ e i. absurd (omega arith)));
           };
           one_signed = one_signed-within (take base trail.literals) trail.literals (take-subset base trail.literals) b.one_signed;
@@ -166,7 +169,7 @@ brought-state problem learned assumed trail own more marks base true s a b stand
 brought-state problem learned assumed trail own more marks base false s a b stands top all some = subst (HasState problem learned assumed trail own more marks base) (sym (b refl)) (stands, top, some refl)
 
 -- room makes no difference
-module _ (problem : ClauseProblem) (learned : List (List Lit)) (assumed : List Lit) (trail : Trailing) (own more more' : Watching) (marks : List ℕ) (base : ℕ) (variables : more'.variables ≡ more.variables) (watched : more'.watched ≡ more.watched) where
+module _ (problem : ClauseProblem) (learned : List (List Lit)) (assumed : List Lit) (trail : Trailing) (own more more' : Watching) (marks : List ℕ) (base : ℕ) (variables : more'.variables ≡ more.variables) (watched : more'.watched ≡ more.watched) (pairs : more'.pairs ≡ more.pairs) where
   standing-room : IsStanding problem learned assumed trail own more marks base → IsStanding problem learned assumed trail own more' marks base
   standing-room is = record {
     parts = record {
@@ -176,6 +179,8 @@ module _ (problem : ClauseProblem) (learned : List (List Lit)) (assumed : List L
       clauses_below = is.parts.clauses_below;
       learned_below = is.parts.learned_below;
       own_inside = is.parts.own_inside;
+      own_paired = is.parts.own_paired;
+      more_plain = ap (λ (p : Pairing). p.others) pairs ∙ is.parts.more_plain;
       more_inside = subst (AreInside learned) (sym watched) is.parts.more_inside;
     };
     one_signed = is.one_signed;
@@ -194,6 +199,7 @@ module _ (problem : ClauseProblem) (learned : List (List Lit)) (assumed : List L
     own_of = is.own_of;
     more_of = variables ∙ is.more_of;
     own_inside = is.own_inside;
+    own_paired = is.own_paired;
     one_signed = is.one_signed;
     base_within = is.base_within;
     base_level = is.base_level;

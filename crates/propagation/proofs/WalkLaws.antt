@@ -11,14 +11,15 @@ use Rattle.clauses.specs.Closure.{closure}
 use Rattle.clauses.specs.Problem.{IsBelow}
 use Rattle.clauses.proofs.LeastLaws.{closure-closed}
 use Rattle.clauses.proofs.Literals.{has-from}
+use Rattle.propagation.specs.inside.Pairing.{Pairing, row_of}
 use Rattle.propagation.specs.inside.Trails.{IsOneSigned, Trailing, code_of}
 use Rattle.propagation.specs.inside.Visits.{IsReplacement, IsStep, Stays}
-use Rattle.propagation.specs.inside.Watching.{AreChains, AreCovered, AreInside, AreKept, AreWatches, IsCovered, IsGrowth, IsRefuted, IsSubset, nothing, partner, watched_at}
+use Rattle.propagation.specs.inside.Watching.{AreChains, AreCovered, AreInside, AreKept, AreWatches, IsApart, IsCovered, IsGrowth, IsRefuted, IsSubset, nothing, partner, watched_at}
 use Rattle.propagation.proofs.ValueLaws.{Any-member}
 use Rattle.propagation.proofs.Codes.{code-below, code-same}
 use Rattle.propagation.proofs.ChainLaws.{counted, chain_count, place-same, place-other, row-empty, row-same, row-some, shift-chains, shifted, shifted_place, head-inside, with_row}
 use Rattle.propagation.proofs.ChainMoves.{rename-chains, swapped, swapped_place, swapped-spare, swapped-other, renamed-size}
-use Rattle.propagation.proofs.WatchLaws.{partner-back, partner-clause, partner-inside, partner-other}
+use Rattle.propagation.proofs.WatchLaws.{apart-same, partner-back, partner-clause, partner-inside, partner-other}
 
 -- ---- growth
 
@@ -53,22 +54,24 @@ module _ (clauses : List (List Lit)) where
 
 -- ---- what stands on the way
 
-module _ (clauses : List (List Lit)) (literal : Lit) (variables : ℕ) (watched0 : List Lit) (trail0 : Trailing) where
+module _ (clauses : List (List Lit)) (literal : Lit) (variables : ℕ) (pairs : Pairing) (watched0 : List Lit) (trail0 : Trailing) where
   abbrev spare : ℕ
   spare = 2 * variables
 
-  -- an entry watches the literal of its slot, or is put aside: its clause is in order, unless some clause is refuted
+  -- an entry is put aside: its clause is in order, unless some clause is refuted
+  abbrev pub IsAside : (ℕ → ℕ) → List Lit → Trailing → Bool → ℕ → Type 0
+  IsAside place watched trail fits e = (place e ≡ 2 * variables) × (watched_at watched e ≡ literal) × (fits ≡ true → Contains trail.literals (watched_at watched (partner e)))
+
+  -- an entry watches the literal of its slot, or is put aside, or is apart
   abbrev pub IsKnown : (ℕ → ℕ) → List Lit → Trailing → Bool → ℕ → Type 0
-  IsKnown place watched trail fits e =
-      (place e ≡ code_of (watched_at watched e))
-      ⊎ ((place e ≡ 2 * variables) × (watched_at watched e ≡ literal) × (fits ≡ true → Contains trail.literals (watched_at watched (partner e))))
+  IsKnown place watched trail fits e = (place e ≡ code_of (watched_at watched e)) ⊎ (IsAside place watched trail fits e ⊎ IsApart variables pairs watched place e)
 
   pub record IsWalk (heads next : List ℕ) (watched : List Lit) (trail : Trailing) (fits : Bool) : Type 0 where
     pub rows : ℕ → List ℕ
     pub place : ℕ → ℕ
     pub chains : AreChains heads next rows place
     pub sized : length next ≡ length watched
-    pub slots : length heads ≡ 2 * variables + 1
+    pub slots : length heads ≡ 2 * variables + 2
     pub below : All (IsBelow variables) watched
     pub inside : AreInside clauses watched
     pub known : (e : ℕ) → e < length watched → IsKnown place watched trail fits e
@@ -76,7 +79,7 @@ module _ (clauses : List (List Lit)) (literal : Lit) (variables : ℕ) (watched0
     pub kept : AreKept trail0.literals watched0 watched
     pub refuted : fits ≡ false → Any (IsRefuted trail.literals) clauses
 
-  pub walk-start : (heads next : List ℕ) → AreWatches variables watched0 heads next → AreInside clauses watched0 → IsWalk heads next watched0 trail0 true
+  pub walk-start : (heads next : List ℕ) → AreWatches variables pairs watched0 heads next → AreInside clauses watched0 → IsWalk heads next watched0 trail0 true
   walk-start heads next are within = record {
     rows = are.rows;
     place = are.place;
@@ -85,7 +88,7 @@ module _ (clauses : List (List Lit)) (literal : Lit) (variables : ℕ) (watched0
     slots = are.slots;
     below = are.below;
     inside = within;
-    known = λ e i. inl (are.watching e i);
+    known = λ e i. ⊎_elim (λ (a : are.place e ≡ code_of (watched_at watched0 e)). inl a) (λ (b : IsApart variables pairs watched0 are.place e). inr (inr b)) (are.watching e i);
     growth = growth-none clauses trail0;
     kept = λ done set a b c. c;
     refuted = λ f. absurd (false≢true (sym f));
@@ -124,11 +127,19 @@ module _ (clauses : List (List Lit)) (literal : Lit) (variables : ℕ) (watched0
       entry-place : is.place entry ≡ from
       entry-place = is.chains.placed from entry from-in (subst (λ r. Contains r entry) (sym row.1) (first entry row.0))
 
+      -- it isn't apart, nor the partner of one that is
+      entry-here : ¬ is.place entry ≡ 2 * variables + 1
+      entry-here e = let low = code-below variables literal literal_in in let p = entry-place in omega arith
+
+      apart-else : (w : List Lit) (x : ℕ) → IsApart variables pairs w is.place x → ¬ partner x ≡ entry
+      apart-else w x b p = entry-here (ap is.place (sym p) ∙ b.there)
+
       watches-it : watched_at watched entry ≡ literal
       watches-it =
           ⊎_elim
           (λ (a : is.place entry ≡ code_of (watched_at watched entry)). code-same (watched_at watched entry) literal (sym a ∙ entry-place))
-          (λ (b : (is.place entry ≡ spare) × (watched_at watched entry ≡ literal) × (fits ≡ true → Contains trail.literals (watched_at watched (partner entry)))). b.1)
+          (λ (r : IsAside is.place watched trail fits entry ⊎ IsApart variables pairs watched is.place entry).
+          ⊎_elim (λ (b : IsAside is.place watched trail fits entry). b.1) (λ (x : IsApart variables pairs watched is.place entry). absurd (entry-here x.here)) r)
           (is.known entry entry-watched)
 
       clause-in : entry / 2 < length clauses
@@ -180,14 +191,20 @@ module _ (clauses : List (List Lit)) (literal : Lit) (variables : ℕ) (watched0
             (λ (ne : ¬ x ≡ entry).
             ⊎_elim
             (λ (a : is.place x ≡ code_of (watched_at w x)). inl (place-other is.place entry to x ne ∙ a))
-            (λ (b : (is.place x ≡ spare) × (watched_at w x ≡ literal) × (f ≡ true → Contains t.literals (watched_at w (partner x)))). inr (place-other is.place entry to x ne ∙ b.0, b.1, b.2))
+            (λ (r : IsAside is.place w t f x ⊎ IsApart variables pairs w is.place x).
+            inr
+            (⊎_elim
+            (λ (b : IsAside is.place w t f x). inl (place-other is.place entry to x ne ∙ b.0, b.1, b.2))
+            (λ (b : IsApart variables pairs w is.place x).
+            inr (apart-same variables pairs w w is.place _ x b (omega arith) refl refl (place-other is.place entry to x ne) (place-other is.place entry to (partner x) (apart-else w x b))))
+            r))
             (rest x i ne))
             (cases_eq x entry)
 
         sized' : length next' ≡ length watched
         sized' = length-set next entry (get_or heads to 0) ∙ is.sized
 
-        slots' : length heads' ≡ 2 * variables + 1
+        slots' : length heads' ≡ 2 * variables + 2
         slots' = length-set (set heads from (get_or next entry 0)) to entry ∙ length-set heads from (get_or next entry 0) ∙ is.slots
 
         pub walk-stays : to ≡ spare → (now : Trailing) (after : Bool) → Stays clause other trail now fits after → IsWalk heads' next' watched now after
@@ -204,10 +221,14 @@ module _ (clauses : List (List Lit)) (literal : Lit) (variables : ℕ) (watched0
               (λ x i ne.
               ⊎_elim
               (λ (a : is.place x ≡ code_of (watched_at watched x)). inl a)
-              (λ (b : (is.place x ≡ spare) × (watched_at watched x ≡ literal) × (fits ≡ true → Contains trail.literals (watched_at watched (partner x)))).
-              inr (b.0, b.1, (λ t. growth-within clauses trail now grows (watched_at watched (partner x)) (b.2 (stays.seen t).0))))
+              (λ (r : IsAside is.place watched trail fits x ⊎ IsApart variables pairs watched is.place x).
+              inr
+              (⊎_elim
+              (λ (b : IsAside is.place watched trail fits x). inl (b.0, b.1, (λ t. growth-within clauses trail now grows (watched_at watched (partner x)) (b.2 (stays.seen t).0))))
+              (λ (b : IsApart variables pairs watched is.place x). inr b)
+              r))
               (is.known x i))
-              (inr (place-same is.place entry to entry refl ∙ at, watches-it, (λ t. (stays.seen t).1)));
+              (inr (inl (place-same is.place entry to entry refl ∙ at, watches-it, (λ t. (stays.seen t).1))));
           growth = growth-then clauses trail0 trail now is.growth grows;
           kept = is.kept;
           refuted = λ f.
@@ -308,10 +329,16 @@ module _ (clauses : List (List Lit)) (literal : Lit) (variables : ℕ) (watched0
                 (λ y j ne.
                 ⊎_elim
                 (λ (a : is.place y ≡ code_of (watched_at watched y)). inl (a ∙ ap code_of (sym (else' y ne))))
-                (λ (b : (is.place y ≡ spare) × (watched_at watched y ≡ literal) × (fits ≡ true → Contains trail.literals (watched_at watched (partner y)))).
+                (λ (r : IsAside is.place watched trail fits y ⊎ IsApart variables pairs watched is.place y).
+                inr
+                (⊎_elim
+                (λ (b : IsAside is.place watched trail fits y).
                 let seen : Contains trail.literals (watched_at watched (partner y)) = b.2 fits_so in
                 let other_one : ¬ partner y ≡ entry = λ p. not-literal (subst (Contains trail.literals) (ap (watched_at watched) p ∙ watches-it) seen) in
-                inr (b.0, else' y ne ∙ b.1, (λ t. subst (Contains trail.literals) (sym (else' (partner y) other_one)) seen)))
+                inl (b.0, else' y ne ∙ b.1, (λ t. subst (Contains trail.literals) (sym (else' (partner y) other_one)) seen)))
+                (λ (b : IsApart variables pairs watched is.place y).
+                inr (apart-same variables pairs watched watched' is.place is.place y b (let size = length-set watched entry found in omega arith) (else' y ne) (else' (partner y) (apart-else watched y b)) refl refl))
+                r))
                 (is.known y j))
                 (inl (place-same is.place entry to entry refl ∙ at ∙ ap code_of (sym here')))
                 x (subst (λ n. x < n) (length-set watched entry found) i);
@@ -367,13 +394,21 @@ module _ (clauses : List (List Lit)) (literal : Lit) (variables : ℕ) (watched0
       empty : is.rows from ≡ []
       empty = row-empty heads next is.rows is.place is.chains from from-in few ends
 
-      known-end : (x : ℕ) → x < length watched → IsKnown is.place watched trail fits x → swapped_place heads next is.rows is.place is.chains from spare from-in spare-in from-spare empty x ≡ code_of (watched_at watched x)
+      known-end : (x : ℕ) → x < length watched → IsKnown is.place watched trail fits x
+          → (swapped_place heads next is.rows is.place is.chains from spare from-in spare-in from-spare empty x ≡ code_of (watched_at watched x)) ⊎ IsApart variables pairs watched (swapped_place heads next is.rows is.place is.chains from spare from-in spare-in from-spare empty) x
       known-end x i (inl a) =
           let low = code-below variables (watched_at watched x) (All-contains (IsBelow variables) watched (watched_at watched x) is.below (Contains-get_or watched x (negative_of 0) i)) in
-          swapped-other heads next is.rows is.place is.chains from spare from-in spare-in from-spare empty x (λ e. let two = sym a ∙ e in omega arith) ∙ a
-      known-end x i (inr b) = swapped-spare heads next is.rows is.place is.chains from spare from-in spare-in from-spare empty x b.0 ∙ ap code_of (sym b.1)
+          inl (swapped-other heads next is.rows is.place is.chains from spare from-in spare-in from-spare empty x (λ e. let two = sym a ∙ e in omega arith) ∙ a)
+      known-end x i (inr (inl b)) = inl (swapped-spare heads next is.rows is.place is.chains from spare from-in spare-in from-spare empty x b.0 ∙ ap code_of (sym b.1))
+      known-end x i (inr (inr b)) =
+          let here = b.here in
+          let there = b.there in
+          inr
+          (apart-same variables pairs watched watched is.place (swapped_place heads next is.rows is.place is.chains from spare from-in spare-in from-spare empty) x b (omega arith) refl refl
+          (swapped-other heads next is.rows is.place is.chains from spare from-in spare-in from-spare empty x (λ e. omega arith))
+          (swapped-other heads next is.rows is.place is.chains from spare from-in spare-in from-spare empty (partner x) (λ e. omega arith)))
 
-      pub walk-ends : AreWatches variables watched (set (set heads from (get_or heads spare 0)) spare nothing) next
+      pub walk-ends : AreWatches variables pairs watched (set (set heads from (get_or heads spare 0)) spare nothing) next
       walk-ends = record {
         rows = swapped heads next is.rows is.place is.chains from spare from-in spare-in from-spare empty;
         place = swapped_place heads next is.rows is.place is.chains from spare from-in spare-in from-spare empty;
@@ -384,11 +419,16 @@ module _ (clauses : List (List Lit)) (literal : Lit) (variables : ℕ) (watched0
         watching = λ x i. known-end x i (is.known x i);
       }
 
-      pub walk-seen : fits ≡ true → (x : ℕ) → x < length watched → watched_at watched x ≡ literal → Contains trail.literals (watched_at watched (partner x))
-      walk-seen t x i e =
+      pub walk-seen : ((l : Lit) → Contains (row_of pairs (code_of literal)) l → Contains trail0.literals l) → fits ≡ true → (x : ℕ) → x < length watched → watched_at watched x ≡ literal → Contains trail.literals (watched_at watched (partner x))
+      walk-seen brought t x i e =
           ⊎_elim
           (λ (a : is.place x ≡ code_of (watched_at watched x)).
           let here : is.place x ≡ from = a ∙ ap code_of e in
           absurd (none x (subst (λ r. Contains r x) empty (subst (λ s. Contains (is.rows s) x) here (is.chains.full x (let s = is.sized in omega arith))))))
-          (λ (b : (is.place x ≡ spare) × (watched_at watched x ≡ literal) × (fits ≡ true → Contains trail.literals (watched_at watched (partner x)))). b.2 t)
+          (λ (r : IsAside is.place watched trail fits x ⊎ IsApart variables pairs watched is.place x).
+          ⊎_elim
+          (λ (b : IsAside is.place watched trail fits x). b.2 t)
+          (λ (b : IsApart variables pairs watched is.place x).
+          growth-within clauses trail0 trail is.growth (watched_at watched (partner x)) (brought (watched_at watched (partner x)) (subst (λ (l : Lit). Contains (row_of pairs (code_of l)) (watched_at watched (partner x))) e b.listed)))
+          r)
           (is.known x i)

@@ -4,7 +4,9 @@ pub mod Levels
 pub mod Places
 pub mod RootTrials
 pub mod Trails
+pub mod Pairing
 pub mod UpToDate
 pub mod Values
 pub mod Visits
 pub mod Watching
+pub mod Sorting

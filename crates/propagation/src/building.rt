@@ -45,6 +45,7 @@ fn watch_all(problem: &Problem, own: &mut Watches, trail: &mut Trail) -> Result<
     requires own_of { own.old.variables ≡ problem.now.variables }
     requires trail_of { trail.old.variables ≡ problem.now.variables }
     requires own_empty { own.old.watched ≡ [] }
+    requires own_plain { own.old.pairs.others ≡ [] }
     requires trail_empty { trail.old.literals ≡ [] }
     ensures { IfOk result (AreAllWatched problem.now own.new trail.new) }
 {
@@ -68,7 +69,9 @@ pub(crate) fn begin(
     requires more_of { more.old.variables ≡ problem.now.variables }
     requires trail_of { trail.old.variables ≡ problem.now.variables }
     requires own_empty { own.old.watched ≡ [] }
+    requires own_plain { own.old.pairs.others ≡ [] }
     requires more_empty { more.old.watched ≡ [] }
+    requires more_plain { more.old.pairs.others ≡ [] }
     requires trail_empty { trail.old.literals ≡ [] }
     requires learned_empty { learned.now ≡ [] }
     ensures { IfOk result (HasState problem.now [] [] trail.new own.new more.new [] (length trail.new.literals)) }
@@ -77,6 +80,7 @@ pub(crate) fn begin(
     if !watch_all(problem, own, trail)? {
         return Ok(State::Dead);
     }
+    own.set_apart(problem.clauses.as_slice())?;
     let fits = propagate(problem, learned, own, more, trail, 0);
     prove!(0 <= trail.len());
     if fits {

@@ -8,10 +8,12 @@
 mod building;
 mod laws;
 mod levels;
+mod pairs;
 mod placing;
 mod propagating;
 mod propagator;
 mod roots;
+mod sorting;
 mod state;
 mod trail;
 mod visits;

@@ -4,9 +4,12 @@ ghost use Rattle.clauses.specs.declared.literal.Lit.{Lit};
 ghost use Rattle.clauses.specs.Clause.{negation};
 ghost use Rattle.clauses.specs.Problem.{IsBelow};
 ghost use Rattle.propagation.specs.inside.Visits.{IsStep};
+ghost use Rattle.propagation.specs.inside.Pairing.{ArePaired, row_of};
 ghost use Rattle.propagation.specs.inside.Trails.{code_of};
 ghost use Rattle.propagation.specs.inside.Watching.{AreInside, AreKept, IsGrowth, IsRefuted, IsReleased, partner, watched_at};
 
+use crate::pairs::{Pairs, bring_row};
+use crate::sorting::sort_chain;
 use crate::trail::{Trail, code_of};
 use crate::visits::{Visit, look_at};
 use clauses::{Clause, Lit};
@@ -14,10 +17,10 @@ use std::alloc::{AllocError, Global};
 use std::marker::Model;
 
 /// What stands in place of an entry where a chain ends.
-const NOTHING: usize = usize::MAX;
+pub(crate) const NOTHING: usize = usize::MAX;
 
 /// Two watched literals of each clause, in two entries. A chain leads through the entries of each literal, so that
-/// watching another literal takes no memory.
+/// watching another literal takes no memory. Clauses of two literals may stand apart, where no chain is walked.
 #[derive(Drop)]
 pub(crate) struct Watches {
     variables: usize,
@@ -25,8 +28,11 @@ pub(crate) struct Watches {
     watched: Vec<Lit>,
     /// The entry behind each entry in its chain.
     next: Vec<usize>,
-    /// The first entry of the chain of each literal, by its number. The last chain is spare.
+    /// The first entry of the chain of each literal, by its number. Of two chains more the first is spare, and the second has
+    /// the entries of the clauses that are apart.
     heads: Vec<usize>,
+    /// Those clauses.
+    pairs: Pairs,
 }
 
 impl Model for Watches {
@@ -35,9 +41,9 @@ impl Model for Watches {
 
     ghost Value = { Watching };
 
-    ghost view = { λ a. record { variables = a.variables; watched = a.watched.items; room = min (vec_capacity a.watched) (vec_capacity a.next) } };
+    ghost view = { λ a. record { variables = a.variables; watched = a.watched.items; room = min (vec_capacity a.watched) (vec_capacity a.next); pairs = a.pairs } };
 
-    ghost invariant = { λ a. AreWatches a.variables a.watched.items a.heads.items a.next.items };
+    ghost invariant = { λ a. AreWatches a.variables a.pairs a.watched.items a.heads.items a.next.items };
 }
 
 impl Watches {
@@ -46,13 +52,15 @@ impl Watches {
         requires { variables ≤ 1000000 }
         ensures variables { IfOk result (λ watches. watches.variables ≡ variables) }
         ensures watched { IfOk result (λ watches. watches.watched ≡ []) }
+        ensures plain { IfOk result (λ watches. watches.pairs.others ≡ []) }
     {
-        let heads = vec![in alloc; NOTHING; 2 * variables + 1]?;
+        let heads = vec![in alloc; NOTHING; 2 * variables + 2]?;
         Ok(Watches {
             variables,
             watched: Vec::new(alloc),
             next: Vec::new(alloc),
             heads,
+            pairs: Pairs::none(alloc),
         })
     }
 
@@ -60,6 +68,7 @@ impl Watches {
     pub fn reserve(&mut self) -> Result<(), AllocError>
         ensures variables { self.new.variables ≡ self.old.variables }
         ensures watched { self.new.watched ≡ self.old.watched }
+        ensures pairs { self.new.pairs ≡ self.old.pairs }
         ensures room { OnOk result (length self.new.watched + 2 ≤ self.new.room) }
     {
         self.watched.reserve(2)?;
@@ -91,12 +100,46 @@ impl Watches {
         self.watch(other);
     }
 
+    /// Sets the clauses of two literals apart, where none is yet.
+    pub fn set_apart(&mut self, clauses: &[Clause]) -> Result<(), AllocError>
+        requires inside { AreInside clauses.now self.old.watched }
+        requires plain { self.old.pairs.others ≡ [] }
+        requires few { self.old.variables ≤ 1000000 }
+        ensures variables { self.new.variables ≡ self.old.variables }
+        ensures watched { self.new.watched ≡ self.old.watched }
+        ensures paired { OnOk result (ArePaired clauses.now self.new.pairs) }
+    {
+        let alloc = *self.watched.allocator();
+        let slots = 2 * self.variables;
+        let mut starts = Vec::with_capacity(alloc, slots + 1)?;
+        let mut others = Vec::with_capacity(alloc, self.watched.len())?;
+        starts.push_reserved(0);
+        for slot in 0..slots {
+            sort_chain(
+                clauses,
+                &self.watched,
+                &mut self.heads,
+                &mut self.next,
+                slot,
+                self.variables,
+                &mut others,
+            );
+            starts.push_reserved(others.len());
+        }
+        self.pairs = Pairs { starts, others };
+        Ok(())
+    }
+
     /// Nothing is watched any more. What was reserved stays so.
     pub fn clear(&mut self)
         ensures variables { self.new.variables ≡ self.old.variables }
         ensures watched { self.new.watched ≡ [] }
+        ensures plain { self.new.pairs.others ≡ [] }
     {
         release(&mut self.heads, &self.watched);
+        let last = 2 * self.variables + 1;
+        self.heads[last] = NOTHING;
+        self.pairs = Pairs::none(*self.watched.allocator());
         self.watched.clear();
         self.next.clear();
     }
@@ -105,11 +148,35 @@ impl Watches {
     /// refuted.
     pub fn spread(&mut self, clauses: &[Clause], literal: Lit, trail: &mut Trail) -> bool
         requires inside { AreInside clauses.now self.old.watched }
+        requires paired { ArePaired clauses.now self.old.pairs }
         requires below { All (All (IsBelow self.old.variables)) clauses.now }
         requires variables { trail.old.variables ≡ self.old.variables }
         requires variable { IsBelow self.old.variables literal }
         requires is_false { Contains trail.old.literals (negation literal) }
         ensures same { self.new.variables ≡ self.old.variables }
+        ensures pairs { self.new.pairs ≡ self.old.pairs }
+        ensures inside { AreInside clauses.now self.new.watched }
+        ensures growth { IsGrowth clauses.now trail.old trail.new }
+        ensures kept { AreKept trail.old.literals self.old.watched self.new.watched }
+        ensures seen { IsTrue result → (entry : ℕ) → entry < length self.new.watched → watched_at self.new.watched entry ≡ literal → Contains trail.new.literals (watched_at self.new.watched (partner entry)) }
+        ensures refuted { IsFalse result → Any (IsRefuted trail.new.literals) clauses.now }
+    {
+        if !bring_row(self.pairs.row(code_of(literal)), trail) {
+            return false;
+        }
+        self.walk(clauses, literal, trail)
+    }
+
+    /// Goes along the chain of the literal, which is false now, and brings in what its clauses force. False where one is refuted.
+    fn walk(&mut self, clauses: &[Clause], literal: Lit, trail: &mut Trail) -> bool
+        requires inside { AreInside clauses.now self.old.watched }
+        requires below { All (All (IsBelow self.old.variables)) clauses.now }
+        requires variables { trail.old.variables ≡ self.old.variables }
+        requires variable { IsBelow self.old.variables literal }
+        requires is_false { Contains trail.old.literals (negation literal) }
+        requires brought { (other : Lit) → Contains (row_of self.old.pairs (code_of literal)) other → Contains trail.old.literals other }
+        ensures same { self.new.variables ≡ self.old.variables }
+        ensures pairs { self.new.pairs ≡ self.old.pairs }
         ensures inside { AreInside clauses.now self.new.watched }
         ensures growth { IsGrowth clauses.now trail.old trail.new }
         ensures kept { AreKept trail.old.literals self.old.watched self.new.watched }
@@ -139,7 +206,7 @@ impl Watches {
 }
 
 /// The other entry of the same clause.
-fn partner(entry: usize) -> usize
+pub(crate) fn partner(entry: usize) -> usize
     requires { entry + 1 < 2 ^ 64 }
     ensures { result ≡ partner entry }
 {
@@ -183,7 +250,7 @@ fn step(
 }
 
 /// Moves the first entry of one chain to the front of another.
-fn shift(heads: &mut [usize], next: &mut [usize], from: usize, to: usize)
+pub(crate) fn shift(heads: &mut [usize], next: &mut [usize], from: usize, to: usize)
     requires from { from < length heads.old }
     requires to { to < length heads.old }
     requires apart { from ≢ to }

@@ -14,6 +14,7 @@ pub record HasPair (clause : List Lit) (old new : Watching) (before now : Traili
   pub other_in : Contains clause other
   pub attached : new.watched ≡ old.watched ++ one ∷ other ∷ []
   pub variables : new.variables ≡ old.variables
+  pub pairs : new.pairs ≡ old.pairs
   pub either : ((one ≢ other) × (now ≡ before)) ⊎ (((literal : Lit) → Contains clause literal → literal ≡ one) × IsTakenIn before one now)
 
 -- so it is, or all its literals are false
@@ -21,11 +22,12 @@ abbrev pub IsWatched : List Lit → Watching → Watching → Trailing → Trail
 IsWatched clause old new before now true = HasPair clause old new before now
 IsWatched clause old new before now false = IsRefuted before.literals clause
 
--- these clauses are watched
+-- these clauses are watched, and none is apart
 pub record AreWatched (problem : ClauseProblem) (clauses : List (List Lit)) (own : Watching) (trail : Trailing) : Type 0 where
   pub own_of : own.variables ≡ problem.variables
   pub trail_of : trail.variables ≡ problem.variables
   pub inside : AreInside clauses own.watched
+  pub plain : own.pairs.others ≡ []
   pub covered : AreCovered [] trail.literals own.watched
   pub sound : IsSound problem.clauses trail.literals
 

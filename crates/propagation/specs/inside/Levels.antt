@@ -6,10 +6,11 @@ use Rattle.clauses.specs.Problem.{ClauseProblem, IsBelow}
 use Rattle.propagation.specs.Propagation.{all_of}
 use Rattle.propagation.specs.declared.state.State.{State}
 use Rattle.propagation.specs.declared.state.State.TheVariants as state
+use Rattle.propagation.specs.inside.Pairing.{ArePaired}
 use Rattle.propagation.specs.inside.Trails.{IsOneSigned, IsTakenIn, Trailing}
 use Rattle.propagation.specs.inside.Watching.{AreCovered, AreInside, AreKept, IsGrowth, IsRefuted, IsSound, Watching}
 
--- the parts are about the problem's variables, and the watches about its clauses and the learned ones
+-- the parts are about the problem's variables, and the watches about its clauses and the learned ones; none of these is apart
 pub record AreParts (problem : ClauseProblem) (learned : List (List Lit)) (trail : Trailing) (own more : Watching) : Type 0 where
   pub trail_of : trail.variables ≡ problem.variables
   pub own_of : own.variables ≡ problem.variables
@@ -18,6 +19,8 @@ pub record AreParts (problem : ClauseProblem) (learned : List (List Lit)) (trail
   pub learned_below : All (All (IsBelow problem.variables)) learned
   pub own_inside : AreInside problem.clauses own.watched
   pub more_inside : AreInside learned more.watched
+  pub own_paired : ArePaired problem.clauses own.pairs
+  pub more_plain : more.pairs.others ≡ []
 
 -- what is forced has been brought in, and where no clause is refuted all is covered
 pub record HasPropagated (clauses : List (List Lit)) (before now : Trailing) (own_before own_now more_before more_now : Watching) (fits : Bool) : Type 0 where
@@ -78,6 +81,7 @@ pub record IsBased (problem : ClauseProblem) (trail : Trailing) (own more : Watc
   pub own_of : own.variables ≡ problem.variables
   pub more_of : more.variables ≡ problem.variables
   pub own_inside : AreInside problem.clauses own.watched
+  pub own_paired : ArePaired problem.clauses own.pairs
   pub one_signed : IsOneSigned trail.literals
   pub base_within : base ≤ length trail.literals
   pub base_level : IsLevel problem.clauses [] own.watched [] [] (take base trail.literals)

@@ -1,19 +1,22 @@
 -- Two watched literals of each clause. The entries 2 i and 2 i + 1 are those of the clause with number i; a chain leads
--- through the entries that watch a literal.
+-- through the entries that watch a literal, but for those of clauses of two literals that are apart: there the other
+-- literal stands in the row of the first.
 use Rattle.std.specs.Prelude.{◌≡◌, ◌≢◌, ◌⊎◌, ◌+◌, ◌-◌, ◌*◌, ◌/◌, ◌%◌, ◌<◌, ◌++◌, ◌∷◌, [], ℕ, All, Contains, List, length, slice_index_or}
 use Rattle.lists.specs.Distinct.{IsDistinct}
 use Rattle.clauses.specs.declared.literal.Lit.{Lit}
 use Rattle.clauses.specs.Clause.{negation, negative_of}
 use Rattle.clauses.specs.Closure.{closure}
 use Rattle.clauses.specs.Problem.{IsBelow}
+use Rattle.propagation.specs.inside.Pairing.{Pairing, row_of}
 use Rattle.propagation.specs.inside.Trails.{Trailing, code_of}
 use Rattle.propagation.specs.inside.Values.{IsPart}
 
--- the watched literal of each entry, and for how many there is room
+-- the watched literal of each entry, for how many there is room, and the rows of the clauses that are apart
 pub record Watching : Type 0 where
   pub variables : ℕ
   pub watched : List Lit
   pub room : ℕ
+  pub pairs : Pairing
 
 -- the other entry of the same clause
 abbrev pub partner : ℕ → ℕ
@@ -39,15 +42,22 @@ pub record AreChains (heads next : List ℕ) (rows : ℕ → List ℕ) (place : 
   pub inside : (entry : ℕ) → entry < length next → place entry < length heads
   pub full : (entry : ℕ) → entry < length next → Contains (rows (place entry)) entry
 
--- each entry is in the chain of the literal that it watches; the last slot is spare
-pub record AreWatches (variables : ℕ) (watched : List Lit) (heads next : List ℕ) : Type 0 where
+-- an entry and its partner are apart, in the last chain, and the partner's literal stands in the row
+pub record IsApart (variables : ℕ) (pairs : Pairing) (watched : List Lit) (place : ℕ → ℕ) (entry : ℕ) : Type 0 where
+  pub here : place entry ≡ 2 * variables + 1
+  pub there : place (partner entry) ≡ 2 * variables + 1
+  pub within : partner entry < length watched
+  pub listed : Contains (row_of pairs (code_of (watched_at watched entry))) (watched_at watched (partner entry))
+
+-- each entry is in the chain of the literal that it watches, or it is apart; the last slot but one is spare
+pub record AreWatches (variables : ℕ) (pairs : Pairing) (watched : List Lit) (heads next : List ℕ) : Type 0 where
   pub rows : ℕ → List ℕ
   pub place : ℕ → ℕ
   pub chains : AreChains heads next rows place
   pub sized : length next ≡ length watched
-  pub slots : length heads ≡ 2 * variables + 1
+  pub slots : length heads ≡ 2 * variables + 2
   pub below : All (IsBelow variables) watched
-  pub watching : (entry : ℕ) → entry < length watched → place entry ≡ code_of (watched_at watched entry)
+  pub watching : (entry : ℕ) → entry < length watched → (place entry ≡ code_of (watched_at watched entry)) ⊎ IsApart variables pairs watched place entry
 
 -- the literals are all of clauses that they watch
 abbrev pub AreInside : List (List Lit) → List Lit → Type 0

@@ -8,7 +8,7 @@ use Rattle.propagation.proofs.BuildLaws.{watched-none, watched-next, watched-ref
 use Rattle.propagation.proofs.building.watch_all.Goals as goal
 
 pub loop-clause-init : goal.loop-clause-init
-loop-clause-init c = watched-none c.args.problem.now c.args.own.now c.args.trail.now c.requires.own_of c.requires.trail_of c.requires.own_empty c.requires.trail_empty
+loop-clause-init c = watched-none c.args.problem.now c.args.own.now c.args.trail.now c.requires.own_of c.requires.trail_of c.requires.own_empty c.requires.own_plain c.requires.trail_empty
 
 pub returns-then-not-branch : goal.returns-then-not-branch
 returns-then-not-branch c =

@@ -16,5 +16,6 @@ returns-else-is_false c = record {
   other_in = c.in-Alone.ensures.0.inside;
   attached = ap (λ (w : Watching). w.watched) c.attach-in-Alone.ensures ∙ ap (λ ls. ls ++ c.in-Alone.one ∷ c.in-Alone.one ∷ []) c.in_ok-reserve.ensures.watched;
   variables = ap (λ (w : Watching). w.variables) c.attach-in-Alone.ensures ∙ c.in_ok-reserve.ensures.variables;
+  pairs = ap (λ (w : Watching). w.pairs) c.attach-in-Alone.ensures ∙ c.in_ok-reserve.ensures.pairs;
   either = inr (only-one c.args.clause.now c.in-Alone.one c.in-Alone.ensures.0, c.take_in.ensures);
 }

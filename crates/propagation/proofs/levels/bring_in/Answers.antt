@@ -31,6 +31,8 @@ propagate-fits-requires c =
         learned_below = is.parts.learned_below;
         own_inside = is.parts.own_inside;
         more_inside = is.parts.more_inside;
+        own_paired = is.parts.own_paired;
+        more_plain = is.parts.more_plain;
       };
       start = (let grows = taken-grows problem learned assumed trail c.args.own.now c.args.more.now marks base is top next c.take_in.new.self taken in
           let size = ap length grows.1 in

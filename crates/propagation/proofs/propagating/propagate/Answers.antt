@@ -6,10 +6,13 @@ use Rattle.std.proofs.lemmas.Option.{slice_get_within}
 use Rattle.clauses.specs.declared.literal.Lit.{Lit}
 use Rattle.clauses.specs.Clause.{negation, negative_of}
 use Rattle.clauses.specs.Problem.{ClauseProblem}
+use Rattle.propagation.specs.inside.Pairing.{ArePaired}
+use Rattle.propagation.specs.inside.Trails.{code_of}
 use Rattle.propagation.specs.inside.Watching.{AreCovered, AreInside, IsGrowth, IsRefuted}
 use Rattle.propagation.proofs.WalkLaws.{growth-within}
 use Rattle.propagation.proofs.PropagateLaws.{going-start, going-refuted, going-done, head-literal, next-covered, own-spread, more-spread, refuted-part, take-next, take-subset}
 use Rattle.propagation.proofs.CoverLaws.{covered-more}
+use Rattle.propagation.proofs.WatchLaws.{row-plain}
 use Rattle.propagation.proofs.propagating.propagate.Goals as goal
 
 pub loop-head-init : goal.loop-head-init
@@ -23,6 +26,9 @@ loop-head-init c = record {
 pub spread-requires-clause-inside : goal.spread-requires-clause-inside
 spread-requires-clause-inside c = subst (λ cs. AreInside cs c.loop-head.own.watched) (sym (c.as_slice.ensures ∙ ap (λ (p : ClauseProblem). p.clauses) c.problem.view_is)) c.loop-head.invariant.going.parts.own_inside
 
+pub spread-requires-clause-paired : goal.spread-requires-clause-paired
+spread-requires-clause-paired c = subst (λ cs. ArePaired cs c.loop-head.own.pairs) (sym (c.as_slice.ensures ∙ ap (λ (p : ClauseProblem). p.clauses) c.problem.view_is)) c.loop-head.invariant.going.parts.own_paired
+
 pub spread-requires-clause-is_false : goal.spread-requires-clause-is_false
 spread-requires-clause-is_false c =
     let trail : List Lit = c.loop-head.trail.literals in
@@ -33,7 +39,7 @@ pub returns-then-not-spread-clause-parts : goal.returns-then-not-spread-clause-p
 returns-then-not-spread-clause-parts c =
     let is = c.loop-head.invariant.going in
     let clauses = (c.as_slice.ensures ∙ ap (λ (p : ClauseProblem). p.clauses) c.problem.view_is) in
-    let one = own-spread c.args.problem.now c.args.learned.now c.args.trail.now c.args.own.now c.args.more.now c.loop-head.trail c.loop-head.own c.loop-head.more is c.spread.new.trail c.spread.new.self c.spread.ensures.same
+    let one = own-spread c.args.problem.now c.args.learned.now c.args.trail.now c.args.own.now c.args.more.now c.loop-head.trail c.loop-head.own c.loop-head.more is c.spread.new.trail c.spread.new.self c.spread.ensures.same c.spread.ensures.pairs
     (subst (λ cs. AreInside cs c.spread.new.self.watched) clauses c.spread.ensures.inside)
     (subst (λ cs. IsGrowth cs c.loop-head.trail c.spread.new.trail) clauses c.spread.ensures.growth)
     c.spread.ensures.kept in
@@ -43,7 +49,7 @@ pub returns-then-not-spread-clause-done : goal.returns-then-not-spread-clause-do
 returns-then-not-spread-clause-done c =
     let is = c.loop-head.invariant.going in
     let clauses = (c.as_slice.ensures ∙ ap (λ (p : ClauseProblem). p.clauses) c.problem.view_is) in
-    let one = own-spread c.args.problem.now c.args.learned.now c.args.trail.now c.args.own.now c.args.more.now c.loop-head.trail c.loop-head.own c.loop-head.more is c.spread.new.trail c.spread.new.self c.spread.ensures.same
+    let one = own-spread c.args.problem.now c.args.learned.now c.args.trail.now c.args.own.now c.args.more.now c.loop-head.trail c.loop-head.own c.loop-head.more is c.spread.new.trail c.spread.new.self c.spread.ensures.same c.spread.ensures.pairs
     (subst (λ cs. AreInside cs c.spread.new.self.watched) clauses c.spread.ensures.inside)
     (subst (λ cs. IsGrowth cs c.loop-head.trail c.spread.new.trail) clauses c.spread.ensures.growth)
     c.spread.ensures.kept in
@@ -55,6 +61,9 @@ returns-then-not-spread-clause-done c =
 
 pub spread-requires-in-loop-head-clause-inside : goal.spread-requires-in-loop-head-clause-inside
 spread-requires-in-loop-head-clause-inside c = subst (λ cs. AreInside cs c.loop-head.more.watched) (sym c.as_slice-in-loop-head.ensures) c.loop-head.invariant.going.parts.more_inside
+
+pub spread-requires-in-loop-head-clause-paired : goal.spread-requires-in-loop-head-clause-paired
+spread-requires-in-loop-head-clause-paired c one other m = absurd (row-plain c.loop-head.more.pairs c.loop-head.invariant.going.parts.more_plain (code_of one) other m)
 
 pub spread-requires-in-loop-head-clause-variables : goal.spread-requires-in-loop-head-clause-variables
 spread-requires-in-loop-head-clause-variables c = c.spread.ensures.growth.same ∙ c.loop-head.invariant.going.parts.trail_of ∙ sym c.loop-head.invariant.going.parts.more_of
@@ -70,11 +79,11 @@ pub returns-then-not-spread-2-clause-parts : goal.returns-then-not-spread-2-clau
 returns-then-not-spread-2-clause-parts c =
     let is = c.loop-head.invariant.going in
     let clauses = (c.as_slice.ensures ∙ ap (λ (p : ClauseProblem). p.clauses) c.problem.view_is) in
-    let one = own-spread c.args.problem.now c.args.learned.now c.args.trail.now c.args.own.now c.args.more.now c.loop-head.trail c.loop-head.own c.loop-head.more is c.spread.new.trail c.spread.new.self c.spread.ensures.same
+    let one = own-spread c.args.problem.now c.args.learned.now c.args.trail.now c.args.own.now c.args.more.now c.loop-head.trail c.loop-head.own c.loop-head.more is c.spread.new.trail c.spread.new.self c.spread.ensures.same c.spread.ensures.pairs
     (subst (λ cs. AreInside cs c.spread.new.self.watched) clauses c.spread.ensures.inside)
     (subst (λ cs. IsGrowth cs c.loop-head.trail c.spread.new.trail) clauses c.spread.ensures.growth)
     c.spread.ensures.kept in
-    let two = more-spread c.args.problem.now c.args.learned.now c.args.trail.now c.args.own.now c.args.more.now c.spread.new.trail c.spread.new.self c.loop-head.more one c.spread-in-loop-head.new.trail c.spread-in-loop-head.new.self c.spread-in-loop-head.ensures.same
+    let two = more-spread c.args.problem.now c.args.learned.now c.args.trail.now c.args.own.now c.args.more.now c.spread.new.trail c.spread.new.self c.loop-head.more one c.spread-in-loop-head.new.trail c.spread-in-loop-head.new.self c.spread-in-loop-head.ensures.same c.spread-in-loop-head.ensures.pairs
     (subst (λ cs. AreInside cs c.spread-in-loop-head.new.self.watched) c.as_slice-in-loop-head.ensures c.spread-in-loop-head.ensures.inside)
     (subst (λ cs. IsGrowth cs c.spread.new.trail c.spread-in-loop-head.new.trail) c.as_slice-in-loop-head.ensures c.spread-in-loop-head.ensures.growth)
     c.spread-in-loop-head.ensures.kept in
@@ -84,11 +93,11 @@ pub returns-then-not-spread-2-clause-done : goal.returns-then-not-spread-2-claus
 returns-then-not-spread-2-clause-done c =
     let is = c.loop-head.invariant.going in
     let clauses = (c.as_slice.ensures ∙ ap (λ (p : ClauseProblem). p.clauses) c.problem.view_is) in
-    let one = own-spread c.args.problem.now c.args.learned.now c.args.trail.now c.args.own.now c.args.more.now c.loop-head.trail c.loop-head.own c.loop-head.more is c.spread.new.trail c.spread.new.self c.spread.ensures.same
+    let one = own-spread c.args.problem.now c.args.learned.now c.args.trail.now c.args.own.now c.args.more.now c.loop-head.trail c.loop-head.own c.loop-head.more is c.spread.new.trail c.spread.new.self c.spread.ensures.same c.spread.ensures.pairs
     (subst (λ cs. AreInside cs c.spread.new.self.watched) clauses c.spread.ensures.inside)
     (subst (λ cs. IsGrowth cs c.loop-head.trail c.spread.new.trail) clauses c.spread.ensures.growth)
     c.spread.ensures.kept in
-    let two = more-spread c.args.problem.now c.args.learned.now c.args.trail.now c.args.own.now c.args.more.now c.spread.new.trail c.spread.new.self c.loop-head.more one c.spread-in-loop-head.new.trail c.spread-in-loop-head.new.self c.spread-in-loop-head.ensures.same
+    let two = more-spread c.args.problem.now c.args.learned.now c.args.trail.now c.args.own.now c.args.more.now c.spread.new.trail c.spread.new.self c.loop-head.more one c.spread-in-loop-head.new.trail c.spread-in-loop-head.new.self c.spread-in-loop-head.ensures.same c.spread-in-loop-head.ensures.pairs
     (subst (λ cs. AreInside cs c.spread-in-loop-head.new.self.watched) c.as_slice-in-loop-head.ensures c.spread-in-loop-head.ensures.inside)
     (subst (λ cs. IsGrowth cs c.spread.new.trail c.spread-in-loop-head.new.trail) c.as_slice-in-loop-head.ensures c.spread-in-loop-head.ensures.growth)
     c.spread-in-loop-head.ensures.kept in
@@ -110,11 +119,11 @@ pub loop-head-preserved : goal.loop-head-preserved
 loop-head-preserved c =
     let is = c.loop-head.invariant.going in
     let clauses = (c.as_slice.ensures ∙ ap (λ (p : ClauseProblem). p.clauses) c.problem.view_is) in
-    let one = own-spread c.args.problem.now c.args.learned.now c.args.trail.now c.args.own.now c.args.more.now c.loop-head.trail c.loop-head.own c.loop-head.more is c.spread.new.trail c.spread.new.self c.spread.ensures.same
+    let one = own-spread c.args.problem.now c.args.learned.now c.args.trail.now c.args.own.now c.args.more.now c.loop-head.trail c.loop-head.own c.loop-head.more is c.spread.new.trail c.spread.new.self c.spread.ensures.same c.spread.ensures.pairs
     (subst (λ cs. AreInside cs c.spread.new.self.watched) clauses c.spread.ensures.inside)
     (subst (λ cs. IsGrowth cs c.loop-head.trail c.spread.new.trail) clauses c.spread.ensures.growth)
     c.spread.ensures.kept in
-    let two = more-spread c.args.problem.now c.args.learned.now c.args.trail.now c.args.own.now c.args.more.now c.spread.new.trail c.spread.new.self c.loop-head.more one c.spread-in-loop-head.new.trail c.spread-in-loop-head.new.self c.spread-in-loop-head.ensures.same
+    let two = more-spread c.args.problem.now c.args.learned.now c.args.trail.now c.args.own.now c.args.more.now c.spread.new.trail c.spread.new.self c.loop-head.more one c.spread-in-loop-head.new.trail c.spread-in-loop-head.new.self c.spread-in-loop-head.ensures.same c.spread-in-loop-head.ensures.pairs
     (subst (λ cs. AreInside cs c.spread-in-loop-head.new.self.watched) c.as_slice-in-loop-head.ensures c.spread-in-loop-head.ensures.inside)
     (subst (λ cs. IsGrowth cs c.spread.new.trail c.spread-in-loop-head.new.trail) c.as_slice-in-loop-head.ensures c.spread-in-loop-head.ensures.growth)
     c.spread-in-loop-head.ensures.kept in

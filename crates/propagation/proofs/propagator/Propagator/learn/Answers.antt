@@ -22,7 +22,7 @@ learn_in-self-inside-requires c =
           subst (λ cs. HasState c.self.inside.problem.now (front cs) c.as_slice.result.now c.self.inside.trail c.self.inside.watches c.reserve.new.self c.self.inside.marks.items c.self.inside.base c.self.inside.state) (sym pushed)
           (subst (λ cs. HasState c.self.inside.problem.now cs c.as_slice.result.now c.self.inside.trail c.self.inside.watches c.reserve.new.self c.self.inside.marks.items c.self.inside.base c.self.inside.state) (sym (front-push learned clause))
           (subst (λ a. HasState c.self.inside.problem.now learned a c.self.inside.trail c.self.inside.watches c.reserve.new.self c.self.inside.marks.items c.self.inside.base c.self.inside.state) (sym same)
-          (state-room c.self.inside.problem.now c.self.inside.learned c.self.inside.assumed.items c.self.inside.trail c.self.inside.watches c.self.inside.learned_watches c.reserve.new.self c.self.inside.marks.items c.self.inside.base c.in_ok-reserve.ensures.variables c.in_ok-reserve.ensures.watched c.self.inside.state c.self.invariant.standing)));
+          (state-room c.self.inside.problem.now c.self.inside.learned c.self.inside.assumed.items c.self.inside.trail c.self.inside.watches c.self.inside.learned_watches c.reserve.new.self c.self.inside.marks.items c.self.inside.base c.in_ok-reserve.ensures.variables c.in_ok-reserve.ensures.watched c.in_ok-reserve.ensures.pairs c.self.inside.state c.self.invariant.standing)));
       learned =
           pushed ∙ sym (ap (λ cs. front cs ++ last cs ∷ []) pushed ∙ ap (λ cs. cs ++ last (learned ++ clause ∷ []) ∷ []) (front-push learned clause) ∙ ap (λ (k : List Lit). learned ++ k ∷ []) (last-push learned clause));
       clause = sym (ap last pushed ∙ last-push learned clause);
@@ -41,7 +41,7 @@ invariant_of-self c =
       few = c.self.invariant.few;
       reserved = c.self.invariant.reserved;
       marks_reserved = c.self.invariant.marks_reserved;
-      standing = state-room c.self.inside.problem.now c.self.inside.learned c.self.inside.assumed.items c.self.inside.trail c.self.inside.watches c.self.inside.learned_watches c.reserve.new.self c.self.inside.marks.items c.self.inside.base c.in_err-reserve.ensures.variables c.in_err-reserve.ensures.watched c.self.inside.state c.self.invariant.standing;
+      standing = state-room c.self.inside.problem.now c.self.inside.learned c.self.inside.assumed.items c.self.inside.trail c.self.inside.watches c.self.inside.learned_watches c.reserve.new.self c.self.inside.marks.items c.self.inside.base c.in_err-reserve.ensures.variables c.in_err-reserve.ensures.watched c.in_err-reserve.ensures.pairs c.self.inside.state c.self.invariant.standing;
     }
 
 pub invariant_of-self-in_err-push : goal.invariant_of-self-in_err-push
@@ -54,7 +54,7 @@ invariant_of-self-in_err-push c =
       few = c.self.invariant.few;
       reserved = c.self.invariant.reserved;
       marks_reserved = c.self.invariant.marks_reserved;
-      standing = state-room c.self.inside.problem.now c.self.inside.learned c.self.inside.assumed.items c.self.inside.trail c.self.inside.watches c.self.inside.learned_watches c.reserve.new.self c.self.inside.marks.items c.self.inside.base c.in_ok-reserve.ensures.variables c.in_ok-reserve.ensures.watched c.self.inside.state c.self.invariant.standing;
+      standing = state-room c.self.inside.problem.now c.self.inside.learned c.self.inside.assumed.items c.self.inside.trail c.self.inside.watches c.self.inside.learned_watches c.reserve.new.self c.self.inside.marks.items c.self.inside.base c.in_ok-reserve.ensures.variables c.in_ok-reserve.ensures.watched c.in_ok-reserve.ensures.pairs c.self.inside.state c.self.invariant.standing;
     })
 
 pub invariant_of-self-2 : goal.invariant_of-self-2

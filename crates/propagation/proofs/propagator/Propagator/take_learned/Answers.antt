@@ -34,7 +34,7 @@ invariant_of-self-2 c =
     let marks : c.clear-2.new.self.items ≡ [] = c.clear-2.ensures.items in
     let standing : HasState c.self.inside.problem.now [] [] c.cut.new.self c.self.inside.watches c.clear-3.new.self [] c.self.inside.base state.Rests =
     subst (λ (t : Trailing). HasState c.self.inside.problem.now [] [] t c.self.inside.watches c.clear-3.new.self [] c.self.inside.base state.Rests) (sym c.cut.ensures)
-    (forgotten c.self.inside.problem.now c.self.inside.learned c.self.inside.assumed.items c.self.inside.trail c.self.inside.watches c.self.inside.learned_watches c.self.inside.marks.items c.self.inside.base c.self.inside.state c.self.invariant.standing (λ e. both_ways c.is_dead.result c.if-is_dead.false (c.is_dead.ensures.1 e)) c.self.invariant.problem.clauses_below c.clear-3.new.self c.clear-3.ensures.variables c.clear-3.ensures.watched) in
+    (forgotten c.self.inside.problem.now c.self.inside.learned c.self.inside.assumed.items c.self.inside.trail c.self.inside.watches c.self.inside.learned_watches c.self.inside.marks.items c.self.inside.base c.self.inside.state c.self.invariant.standing (λ e. both_ways c.is_dead.result c.if-is_dead.false (c.is_dead.ensures.1 e)) c.self.invariant.problem.clauses_below c.clear-3.new.self c.clear-3.ensures.variables c.clear-3.ensures.watched c.clear-3.ensures.plain) in
     record {
       problem = c.self.invariant.problem;
       assumed_below = subst (All (IsBelow c.self.inside.problem.now.variables)) (sym assumed) (λ k d l. absurd (omega arith));

@@ -1,0 +1,39 @@
+use Rattle.std.proofs.Common.{◌≡◌, ◌∙◌, sym, subst, get_or, take, true, arith}
+use Rattle.std.specs.Prelude.{Contains}
+use Rattle.std.proofs.lemmas.List.{take_all}
+use Rattle.std.proofs.lemmas.List.Elements.{Contains-get_or}
+use Rattle.clauses.specs.Clause.{negation, negative_of}
+use Rattle.clauses.proofs.Literals.{from_has}
+use Rattle.propagation.specs.inside.Pairing.{IsBrought}
+use Rattle.propagation.proofs.PairLaws.{brought-none, brought-there, brought-put, brought-up-to}
+use Rattle.propagation.proofs.pairs.bring_row.Goals as goal
+
+pub loop-literal-init : goal.loop-literal-init
+loop-literal-init c = brought-none c.args.row.now c.args.trail.now
+
+pub is_true-requires : goal.is_true-requires
+is_true-requires c = let low = c.requires c.loop-literal.literal-index (negative_of 0) c.loop-literal-test.true in let same = c.loop-literal.invariant.same in omega arith
+
+pub loop-literal-preserved-then-is_true : goal.loop-literal-preserved-then-is_true
+loop-literal-preserved-then-is_true c =
+    let here = get_or c.args.row.now c.loop-literal.literal-index (negative_of 0) in
+    brought-there c.args.row.now c.args.trail.now c.loop-literal.trail c.loop-literal.literal-index c.loop-literal-test.true c.loop-literal.invariant
+    (from_has c.loop-literal.trail.literals here (sym c.is_true.ensures.answer ∙ c.if-is_true.true))
+
+pub is_false-requires : goal.is_false-requires
+is_false-requires c = let low = c.requires c.loop-literal.literal-index (negative_of 0) c.loop-literal-test.true in let same = c.loop-literal.invariant.same in omega arith
+
+pub returns-then-is_false : goal.returns-then-is_false
+returns-then-is_false c =
+    let here = get_or c.args.row.now c.loop-literal.literal-index (negative_of 0) in
+    brought-up-to c.args.row.now c.loop-literal.literal-index c.args.trail.now c.loop-literal.trail c.loop-literal.invariant here (Contains-get_or c.args.row.now c.loop-literal.literal-index (negative_of 0) c.loop-literal-test.true)
+    (from_has c.loop-literal.trail.literals (negation here) (sym c.is_false.ensures ∙ c.if-is_false.true))
+
+pub put-requires-clause-variable : goal.put-requires-clause-variable
+put-requires-clause-variable c = let low = c.requires c.loop-literal.literal-index (negative_of 0) c.loop-literal-test.true in let same = c.loop-literal.invariant.same in omega arith
+
+pub loop-literal-preserved : goal.loop-literal-preserved
+loop-literal-preserved c = brought-put c.args.row.now c.args.trail.now c.loop-literal.trail c.loop-literal.literal-index c.loop-literal-test.true c.loop-literal.invariant c.put.new.self c.put.ensures
+
+pub returns : goal.returns
+returns c = subst (λ row. IsBrought row c.args.trail.now c.loop-literal.trail true) (take_all c.loop-literal.literal-index c.args.row.now (let end = c.loop-literal-test.false in omega arith)) c.loop-literal.invariant
