@@ -1,6 +1,7 @@
 pub mod ValueLaws
 pub mod GrowthLaws
 pub mod RootLaws
+pub mod RootSteps
 pub mod RoomLaws
 pub mod Codes
 pub mod TrailLaws

@@ -89,7 +89,7 @@ impl<'a> Trial<'a> {
     {
         self.first = first;
         self.fixed = 0;
-        let fits = assume_roots(&mut self.propagator, key)?;
+        let fits = assume_roots(&mut self.propagator, key);
         if fits {
             self.fixed = key.len();
         }

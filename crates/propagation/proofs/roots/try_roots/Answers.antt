@@ -1,81 +1,64 @@
-use Rattle.std.proofs.Common.{◌≡◌, ◌∙◌, refl, sym, ap, subst, ◌<◌, ◌+◌, ◌++◌, List, [], ◌∷◌, ℕ, length, take, drop, get_or, arith}
-use Rattle.std.specs.Prelude.{Some, slice_get, ◌-◌}
-use Rattle.std.proofs.lemmas.List.{take_all, take_more, take-append-drop, length-take-le}
+use Rattle.std.proofs.Common.{◌≡◌, ◌∙◌, sym, ap, subst, ◌<◌, ◌≤◌, length, arith}
+use Rattle.std.specs.Prelude.{Some, slice_get}
+use Rattle.clauses.specs.Closure.{clash}
 use Rattle.clauses.specs.Problem.{ClauseProblem}
 use Rattle.propagation.specs.Propagation.{Propagation, propagated}
-use Rattle.clauses.specs.Closure.{clash}
-use Rattle.propagation.proofs.RootLaws.{AreAssumed, assumed-none, assumed-next, new-clash, next-clash, items-few, item-bounds, root-below, rooted-all, clash-from_not, no_clash-from_not}
+use Rattle.propagation.specs.inside.RootTrials.{members_to}
+use Rattle.propagation.proofs.RootLaws.{AreAssumed, root-below, clash-from_not, no_clash-from_not}
+use Rattle.propagation.proofs.RootSteps.{begun-assumed, begun-clash, steps-all, steps-clash, steps-few, steps-next, steps-skip}
 use Rattle.propagation.proofs.roots.try_roots.Goals as goal
 
-pub returns-then-clashes-clause-tried : goal.returns-then-clashes-clause-tried
-returns-then-clashes-clause-tried c = (
-  new-clash c.args.propagator.now.problem c.args.key.now c.args.propagator.now refl
-      (ap (λ (at : Propagation). at.assumed) c.requires.bare) (ap (λ (at : Propagation). at.learned) c.requires.bare)
-      (sym c.clashes.ensures ∙ c.if-clashes.true),
-  refl,
+pub returns-then-clashes : goal.returns-then-clashes
+returns-then-clashes c = (
+  begun-clash c.args.propagator.now.problem c.args.key.now c.n.ensures.key c.args.from c.args.propagator.now c.requires.begun (sym c.clashes.ensures ∙ c.if-clashes.true),
+  ap (λ (at : Propagation). at.problem) c.requires.begun.is,
 )
 
-pub loop-position-init : goal.loop-position-init
-loop-position-init c =
-    assumed-none c.args.propagator.now.problem c.args.propagator.now refl
-    (ap (λ (at : Propagation). at.assumed) c.requires.bare) (ap (λ (at : Propagation). at.learned) c.requires.bare)
-    (sym c.clashes.ensures ∙ c.if-clashes.false)
+pub loop-place-init : goal.loop-place-init
+loop-place-init c = begun-assumed c.args.propagator.now.problem c.args.key.now c.n.ensures.key c.args.from c.args.propagator.now c.requires.begun (sym c.clashes.ensures ∙ c.if-clashes.false)
 
-pub overflow_sub-position : goal.overflow_sub-position
-overflow_sub-position c =
-    (item-bounds c.args.key.now c.n.ensures.key c.as_slice-position-items.result.now (c.as_slice-position-items.ensures ∙ c.in_ok-positions.ensures) c.loop-position.position-index c.loop-position-test.true).0
-
-pub get-root-requires : goal.get-root-requires
-get-root-requires c =
-    let at = item-bounds c.args.key.now c.n.ensures.key c.as_slice-position-items.result.now (c.as_slice-position-items.ensures ∙ c.in_ok-positions.ensures) c.loop-position.position-index c.loop-position-test.true in
-    let roots = ap (λ (p : ClauseProblem). length p.roots) (c.problem.view_is ∙ c.problem-problem.ensures.problem) in
-    let count = c.requires in
-    let low = at.0 in
-    let high = at.1 in
-    omega arith
+pub loop-place-preserved-then-not-contains : goal.loop-place-preserved-then-not-contains
+loop-place-preserved-then-not-contains c =
+    steps-skip c.args.propagator.now.problem c.args.key.now c.n.ensures.key c.loop-place.propagator c.loop-place.place (omega (arith, c.n-place-end.ensures.n, c.loop-place-test.true)) c.loop-place.invariant
+    (sym c.contains.ensures ∙ c.if-not-contains.true)
 
 pub assume-requires-clause-no_clash : goal.assume-requires-clause-no_clash
-assume-requires-clause-no_clash c = c.loop-position.invariant.no_clash
+assume-requires-clause-no_clash c = c.loop-place.invariant.no_clash
 
 pub assume-requires-clause-variable : goal.assume-requires-clause-variable
 assume-requires-clause-variable c =
-    subst (λ (at : Propagation). c.get-root.result.now.var < at.problem.variables) (sym c.loop-position.invariant.is)
-    (root-below c.args.propagator.now.problem c.problem-problem.ensures.lawful (get_or c.as_slice-position-items.result.now c.loop-position.position-index 0 - 1) c.get-root.result.now
-    (subst (λ (p : ClauseProblem). slice_get p.roots (get_or c.as_slice-position-items.result.now c.loop-position.position-index 0 - 1) ≡ Some c.get-root.result.now) (c.problem.view_is ∙ c.problem-problem.ensures.problem) c.get-root.ensures))
+    subst (λ (at : Propagation). c.get.result.now.var < at.problem.variables) (sym c.loop-place.invariant.is)
+    (root-below c.args.propagator.now.problem c.problem-problem.ensures.lawful c.loop-place.place c.get.result.now
+    (subst (λ (p : ClauseProblem). slice_get p.roots c.loop-place.place ≡ Some c.get.result.now) (c.problem.view_is ∙ c.problem-problem.ensures.problem) c.get.ensures))
 
 pub assume-requires-clause-few : goal.assume-requires-clause-few
 assume-requires-clause-few c =
-    let few = items-few c.args.key.now c.n.ensures.key c.as_slice-position-items.result.now (c.as_slice-position-items.ensures ∙ c.in_ok-positions.ensures) in
-    let most = c.n.ensures.key.0 in
-    let counted = c.loop-position.invariant.counted in
-    let taken = length-take-le c.loop-position.position-index c.as_slice-position-items.result.now c.loop-position.auto.position-index-end in
-    let inside = c.loop-position-test.true in
+    let few = steps-few c.args.propagator.now.problem c.args.key.now c.n.ensures.key c.loop-place.propagator c.loop-place.place (omega (arith, c.n-place-end.ensures.n, c.loop-place-test.true)) c.loop-place.invariant in
+    let is = ap (λ (p : Propagation). p.problem.variables) c.loop-place.invariant.is in
+    let some = root-below c.args.propagator.now.problem c.problem-problem.ensures.lawful c.loop-place.place c.get.result.now
+    (subst (λ (p : ClauseProblem). slice_get p.roots c.loop-place.place ≡ Some c.get.result.now) (c.problem.view_is ∙ c.problem-problem.ensures.problem) c.get.ensures) in
     omega arith
 
-pub returns-then-not-assume-clause-tried : goal.returns-then-not-assume-clause-tried
-returns-then-not-assume-clause-tried c = (
-  next-clash c.args.propagator.now.problem c.args.key.now c.loop-position.propagator c.assume.new.self (take c.loop-position.position-index c.as_slice-position-items.result.now)
-      (get_or c.as_slice-position-items.result.now c.loop-position.position-index 0) (drop (c.loop-position.position-index + 1) c.as_slice-position-items.result.now) c.get-root.result.now
-      c.loop-position.invariant
-      (subst (λ (p : ClauseProblem). slice_get p.roots (get_or c.as_slice-position-items.result.now c.loop-position.position-index 0 - 1) ≡ Some c.get-root.result.now) (c.problem.view_is ∙ c.problem-problem.ensures.problem) c.get-root.ensures)
-      c.assume.ensures.assumed
-      (clash-from_not (clash (propagated c.assume.new.self)) c.assume.result c.assume.ensures.no_clash c.if-not-assume.true)
-      (sym (c.as_slice-position-items.ensures ∙ c.in_ok-positions.ensures)
-      ∙ sym (take-append-drop (c.loop-position.position-index + 1) c.as_slice-position-items.result.now)
-      ∙ ap (λ (front : List ℕ). front ++ drop (c.loop-position.position-index + 1) c.as_slice-position-items.result.now) (take_more c.as_slice-position-items.result.now c.loop-position.position-index 0 c.loop-position-test.true)),
-  ap (λ (at : Propagation). at.problem) (c.assume.ensures.assumed ∙ ap (λ (at : Propagation). record at { assumed = at.assumed ++ c.get-root.result.now ∷ [] }) c.loop-position.invariant.is),
+pub returns-then-not-assume : goal.returns-then-not-assume
+returns-then-not-assume c = (
+  steps-clash c.args.propagator.now.problem c.args.key.now c.n.ensures.key c.loop-place.propagator c.loop-place.place (omega (arith, c.n-place-end.ensures.n, c.loop-place-test.true)) c.loop-place.invariant
+      (sym c.contains.ensures ∙ c.if-not-contains.false) c.get.result.now
+      (subst (λ (p : ClauseProblem). slice_get p.roots c.loop-place.place ≡ Some c.get.result.now) (c.problem.view_is ∙ c.problem-problem.ensures.problem) c.get.ensures)
+      c.assume.new.self c.assume.ensures.assumed
+      (clash-from_not (clash (propagated c.assume.new.self)) c.assume.result c.assume.ensures.no_clash c.if-not-assume.true),
+  ap (λ (at : Propagation). at.problem) c.assume.ensures.assumed ∙ ap (λ (at : Propagation). at.problem) c.loop-place.invariant.is,
 )
 
-pub loop-position-preserved : goal.loop-position-preserved
-loop-position-preserved c =
-    subst (AreAssumed c.args.propagator.now.problem c.assume.new.self) (sym (take_more c.as_slice-position-items.result.now c.loop-position.position-index 0 c.loop-position-test.true))
-    (assumed-next c.args.propagator.now.problem c.loop-position.propagator c.assume.new.self (take c.loop-position.position-index c.as_slice-position-items.result.now)
-    (get_or c.as_slice-position-items.result.now c.loop-position.position-index 0) c.get-root.result.now c.loop-position.invariant
-    (subst (λ (p : ClauseProblem). slice_get p.roots (get_or c.as_slice-position-items.result.now c.loop-position.position-index 0 - 1) ≡ Some c.get-root.result.now) (c.problem.view_is ∙ c.problem-problem.ensures.problem) c.get-root.ensures)
-    c.assume.ensures.assumed
-    (no_clash-from_not (clash (propagated c.assume.new.self)) c.assume.result c.assume.ensures.no_clash c.if-not-assume.false))
+pub loop-place-preserved : goal.loop-place-preserved
+loop-place-preserved c =
+    steps-next c.args.propagator.now.problem c.args.key.now c.n.ensures.key c.loop-place.propagator c.loop-place.place (omega (arith, c.n-place-end.ensures.n, c.loop-place-test.true)) c.loop-place.invariant
+    (sym c.contains.ensures ∙ c.if-not-contains.false) c.get.result.now
+    (subst (λ (p : ClauseProblem). slice_get p.roots c.loop-place.place ≡ Some c.get.result.now) (c.problem.view_is ∙ c.problem-problem.ensures.problem) c.get.ensures)
+    c.assume.new.self c.assume.ensures.assumed
+    (no_clash-from_not (clash (propagated c.assume.new.self)) c.assume.result c.assume.ensures.no_clash c.if-not-assume.false)
 
-pub returns-clause-tried : goal.returns-clause-tried
-returns-clause-tried c =
-    rooted-all c.args.propagator.now.problem c.args.key.now c.as_slice-position-items.result.now (c.as_slice-position-items.ensures ∙ c.in_ok-positions.ensures) c.n.ensures.key c.loop-position.propagator
-    (subst (AreAssumed c.args.propagator.now.problem c.loop-position.propagator) (take_all c.loop-position.position-index c.as_slice-position-items.result.now (let end = c.loop-position-test.false in omega arith)) c.loop-position.invariant)
+pub returns : goal.returns
+returns c =
+    let whole : c.loop-place.place ≡ c.args.key.now.n = omega (arith, c.n-place-end.ensures.n, c.loop-place-test.false, c.loop-place.auto.place-end, c.requires.begun.within) in
+    steps-all c.args.propagator.now.problem c.args.key.now c.n.ensures.key c.loop-place.propagator
+    (subst (λ n. AreAssumed c.args.propagator.now.problem c.loop-place.propagator (members_to c.args.key.now n)) whole c.loop-place.invariant)
