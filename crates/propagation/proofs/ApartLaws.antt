@@ -10,8 +10,8 @@ use Rattle.lists.proofs.Members.{first, first_or_later, none}
 use Rattle.clauses.specs.declared.literal.Lit.{Lit}
 use Rattle.clauses.specs.Clause.{negative_of}
 use Rattle.clauses.specs.Problem.{IsBelow}
-use Rattle.propagation.specs.inside.Pairing.{ArePaired, AreRows, IsOfTwo, Pairing, row_of, start_in}
-use Rattle.propagation.specs.inside.Sorting.{AreListed, HasRow, IsListed, IsPair, IsRow, IsSorted, IsSortedAt}
+use Rattle.propagation.specs.inside.Pairing.{ArePaired, IsOfTwo, Pairing, row_of, start_in}
+use Rattle.propagation.specs.inside.Sorting.{AreListed, IsListed, IsPair, IsRow, IsSorted}
 use Rattle.propagation.specs.inside.Trails.{code_of}
 use Rattle.propagation.specs.inside.Watching.{AreInside, AreWatches, IsApart, partner, watched_at}
 use Rattle.propagation.proofs.Codes.{code-below, code-same}

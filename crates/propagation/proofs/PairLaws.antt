@@ -1,19 +1,19 @@
 -- Rows of literals that a false literal forces.
-use Rattle.std.proofs.Common.{◌≡◌, ◌∙◌, ◌⊎◌, refl, sym, ap, subst, ⊎_elim, ℕ, ◌+◌, ◌<◌, Bool, true, false, List, [], ◌∷◌, ◌++◌, get_or, length, take, drop, append_assoc, arith}
+use Rattle.std.proofs.Common.{◌≡◌, ◌∙◌, ◌⊎◌, refl, sym, ap, subst, ⊎_elim, ℕ, ◌+◌, ◌<◌, Bool, true, false, List, [], ◌∷◌, ◌++◌, get_or, length, take, drop, append_assoc}
 use Rattle.std.specs.Prelude.{All, Any, Contains}
 use Rattle.std.proofs.lemmas.Bool.{false≢true}
-use Rattle.std.proofs.lemmas.List.{append-nil, take_all, take_more, take-append-drop}
-use Rattle.std.proofs.lemmas.List.Elements.{All-contains, Contains-append_cases, Contains-append_left, Contains-get_or, Contains-push, Contains-push_cases}
+use Rattle.std.proofs.lemmas.List.{append-nil, take_more, take-append-drop}
+use Rattle.std.proofs.lemmas.List.Elements.{All-contains, Contains-append_cases, Contains-append_left, Contains-push, Contains-push_cases}
 use Rattle.lists.proofs.Members.{none}
 use Rattle.clauses.specs.declared.literal.Lit.{Lit}
 use Rattle.clauses.specs.Clause.{negation, negative_of}
 use Rattle.clauses.specs.Closure.{closure}
 use Rattle.clauses.specs.Problem.{IsBelow}
 use Rattle.clauses.proofs.LeastLaws.{closure-closed}
-use Rattle.propagation.specs.inside.Pairing.{ArePaired, IsBrought, IsOfTwo, Pairing, row_of}
+use Rattle.propagation.specs.inside.Pairing.{ArePaired, IsBrought, Pairing, row_of}
 use Rattle.propagation.specs.inside.Trails.{Trailing, code_of}
 use Rattle.propagation.specs.inside.Watching.{IsGrowth, IsRefuted}
-use Rattle.propagation.proofs.ValueLaws.{All-members, Any-member, same_or_not}
+use Rattle.propagation.proofs.ValueLaws.{All-members, Any-member}
 
 -- ---- the literals of a row, one by one
 

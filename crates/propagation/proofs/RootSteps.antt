@@ -1,6 +1,6 @@
 -- The roots of the members of a key up to a position.
-use Rattle.std.proofs.Common.{◌≡◌, ◌∙◌, refl, sym, ap, subst, ℕ, ◌+◌, ◌<◌, ◌≤◌, true, false, cond, List, [], ◌∷◌, ◌++◌, length, map, get_or, take, append-nil, length-append, arith}
-use Rattle.std.specs.Prelude.{◌-◌, Contains, Some, filter, filter_map, slice_get}
+use Rattle.std.proofs.Common.{◌≡◌, ◌∙◌, refl, sym, ap, subst, ℕ, ◌+◌, ◌<◌, ◌≤◌, true, false, cond, List, [], ◌∷◌, ◌++◌, length, take, append-nil, length-append, arith}
+use Rattle.std.specs.Prelude.{◌-◌, Some, filter, filter_map, slice_get}
 use Rattle.std.specs.List.{range_with_len}
 use Rattle.std.proofs.lemmas.List.{length_push, take_more}
 use Rattle.std.proofs.lemmas.List.Elements.{filter-append}
@@ -11,7 +11,7 @@ use Rattle.req_keys.specs.Positions.{has}
 use Rattle.req_keys.proofs.PositionsLaws.{filter-range_push, positions_where-has, length-RiseWithin}
 use Rattle.clauses.specs.declared.literal.Lit.{Lit}
 use Rattle.clauses.specs.Closure.{clash}
-use Rattle.clauses.specs.Problem.{ClauseProblem, clauses_with, roots_at}
+use Rattle.clauses.specs.Problem.{ClauseProblem, clauses_with}
 use Rattle.propagation.specs.Propagation.{Propagation, propagated}
 use Rattle.propagation.specs.Roots.{AreRooted}
 use Rattle.propagation.specs.inside.RootTrials.{AreRootsTo, IsCommon, members_to, roots_to}

@@ -1,5 +1,5 @@
 -- Setting the clauses of two literals apart.
-use Rattle.std.proofs.Common.{◌≡◌, ◌∙◌, ◌⊎◌, refl, sym, ap, subst, inl, inr, ⊎_elim, ℕ, ◌+◌, ◌-◌, ◌*◌, ◌/◌, ◌<◌, ◌≤◌, List, [], ◌∷◌, ◌++◌, length, get_or, set, take, drop, append_assoc, arith}
+use Rattle.std.proofs.Common.{◌≡◌, ◌∙◌, ◌⊎◌, refl, sym, ap, subst, inl, inr, ⊎_elim, ℕ, ◌+◌, ◌*◌, ◌<◌, ◌≤◌, List, [], ◌∷◌, ◌++◌, length, get_or, set, append_assoc, arith}
 use Rattle.std.specs.Prelude.{All, Contains, ◌≢◌}
 use Rattle.std.proofs.lemmas.Bool.{cases_eq}
 use Rattle.std.proofs.lemmas.List.{append-nil, length-set, length_push}
@@ -8,15 +8,13 @@ use Rattle.lists.proofs.Members.{first, none}
 use Rattle.clauses.specs.declared.literal.Lit.{Lit}
 use Rattle.clauses.specs.Clause.{negative_of}
 use Rattle.clauses.specs.Problem.{IsBelow}
-use Rattle.propagation.specs.inside.Pairing.{ArePaired, AreRows, IsOfTwo, Pairing, row_of, start_in}
-use Rattle.propagation.specs.inside.Sorting.{AreListed, HasRow, IsListed, IsPair, IsRow, IsSent, IsSorted, IsSortedAt}
+use Rattle.propagation.specs.inside.Sorting.{HasRow, IsListed, IsPair, IsSent, IsSorted, IsSortedAt}
 use Rattle.propagation.specs.inside.Trails.{code_of}
-use Rattle.propagation.specs.inside.Watching.{AreChains, AreInside, AreWatches, IsApart, nothing, partner, watched_at}
-use Rattle.propagation.proofs.Codes.{code-below, code-same}
+use Rattle.propagation.specs.inside.Watching.{AreChains, nothing, partner, watched_at}
+use Rattle.propagation.proofs.Codes.{code-below}
 use Rattle.propagation.proofs.ChainLaws.{chain-below, counted, chain_count, place-same, place-other, row-empty, row-other, row-same, row-some, shift-chains, shifted, shifted_place, head-inside, with_row}
 use Rattle.propagation.proofs.ChainMoves.{rename-chains, swapped, swapped_place, swapped-spare, swapped-other, renamed-size}
 use Rattle.propagation.proofs.RoomLaws.{distinct-few}
-use Rattle.propagation.proofs.WatchLaws.{partner-back, partner-clause, partner-inside, partner-other, row-plain}
 
 module _ (clauses : List (List Lit)) (variables : ℕ) (watched : List Lit) (slot : ℕ) (others0 : List Lit) where
   abbrev spare : ℕ

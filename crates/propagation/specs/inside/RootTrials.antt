@@ -1,5 +1,5 @@
 -- The roots of a key while they are assumed one by one.
-use Rattle.std.specs.Prelude.{◌≡◌, ◌≢◌, ◌⊎◌, ◌-◌, ◌<◌, ◌≤◌, ℕ, Bool, false, true, IsTrue, List, [], filter, filter_map, length, slice_get, slice_index_or, take, Some}
+use Rattle.std.specs.Prelude.{◌≡◌, ◌≢◌, ◌-◌, ◌≤◌, ℕ, Bool, false, true, IsTrue, List, [], filter, filter_map, length, slice_get, take, Some}
 use Rattle.std.specs.List.{range_with_len}
 use Rattle.req_keys.specs.Key.{PositionSet}
 use Rattle.req_keys.specs.Positions.{has}

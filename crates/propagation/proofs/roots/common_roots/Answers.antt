@@ -1,6 +1,5 @@
-use Rattle.std.proofs.Common.{◌≡◌, ◌∙◌, sym, ap, subst, ◌<◌, ◌≤◌, length, arith}
+use Rattle.std.proofs.Common.{◌≡◌, ◌∙◌, sym, subst, arith}
 use Rattle.std.specs.Prelude.{Some, slice_get}
-use Rattle.clauses.specs.declared.literal.Lit.{Lit}
 use Rattle.clauses.specs.Problem.{ClauseProblem}
 use Rattle.propagation.specs.inside.RootTrials.{IsAt, IsCommon}
 use Rattle.propagation.proofs.RootSteps.{common-next, common-none, common-skip, members-few}

@@ -1,4 +1,4 @@
-use Rattle.std.proofs.Common.{◌≡◌, ◌∙◌, sym, ap, subst, ◌<◌, ◌≤◌, length, arith}
+use Rattle.std.proofs.Common.{◌≡◌, ◌∙◌, sym, ap, subst, ◌<◌, arith}
 use Rattle.std.specs.Prelude.{Some, slice_get}
 use Rattle.clauses.specs.Closure.{clash}
 use Rattle.clauses.specs.Problem.{ClauseProblem}

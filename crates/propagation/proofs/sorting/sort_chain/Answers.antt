@@ -1,8 +1,6 @@
-use Rattle.std.proofs.Common.{◌≡◌, ◌∙◌, sym, ap, subst, refl, ◌*◌, ◌≤◌, length, get_or, set, arith}
-use Rattle.std.proofs.lemmas.List.{get_or_default}
-use Rattle.propagation.specs.inside.Sorting.{IsSorted}
+use Rattle.std.proofs.Common.{◌∙◌, refl, ◌≤◌, length, arith}
 use Rattle.propagation.specs.inside.Watching.{nothing}
-use Rattle.propagation.proofs.SortLaws.{end-row, end-sorted, entry-next, entry-watched, room-left, sent-apart, sent-inside, sent-smaller, sent-sorting, sorting-start}
+use Rattle.propagation.proofs.SortLaws.{end-row, end-sorted, entry-next, entry-watched, room-left, sent-smaller, sent-sorting, sorting-start}
 use Rattle.propagation.proofs.sorting.sort_chain.Goals as goal
 
 pub loop-heads-init : goal.loop-heads-init

@@ -1,4 +1,4 @@
-use Rattle.std.proofs.Common.{◌≡◌, ◌∙◌, ap, length, subst, set, List, ℕ, [], ◌+◌, ◌*◌, arith}
+use Rattle.std.proofs.Common.{◌∙◌, subst, set, List, ℕ, ◌+◌, ◌*◌, arith}
 use Rattle.std.proofs.lemmas.List.{length-set}
 use Rattle.clauses.specs.declared.literal.Lit.{Lit}
 use Rattle.propagation.specs.inside.Watching.{IsReleased, nothing}

@@ -1,10 +1,9 @@
-use Rattle.std.proofs.Common.{◌≡◌, ◌∙◌, refl, sym, ap, subst, ◌+◌, ◌*◌, ◌≤◌, List, length, ℕ, [], ◌∷◌, ◌++◌, Vec, Global, arith}
+use Rattle.std.proofs.Common.{◌≡◌, ◌∙◌, refl, sym, ap, subst, ◌+◌, ◌*◌, List, length, ℕ, [], ◌∷◌, ◌++◌, Vec, Global, arith}
 use Rattle.std.specs.Prelude.{All}
 use Rattle.clauses.specs.declared.literal.Lit.{Lit}
 use Rattle.clauses.specs.Problem.{IsBelow}
-use Rattle.propagation.specs.inside.Pairing.{Pairing}
 use Rattle.propagation.specs.inside.Sorting.{AreListed, HasRow, IsSorted}
-use Rattle.propagation.specs.inside.Watching.{AreInside, AreWatches, Watching}
+use Rattle.propagation.specs.inside.Watching.{AreInside, Watching}
 use Rattle.propagation.proofs.ApartLaws.{listed-next, listed-paired, listed-start, sorted-start, sorted-watches}
 use Rattle.propagation.proofs.WatchLaws.{whole}
 use Rattle.propagation.proofs.watches.Watches.set_apart.Goals as goal

@@ -1,6 +1,5 @@
-use Rattle.std.proofs.Common.{◌≡◌, ◌∙◌, sym, ap, subst, Bool, true, false, List}
+use Rattle.std.proofs.Common.{◌≡◌, ◌∙◌, sym, ap, subst, true}
 use Rattle.std.specs.Prelude.{All, Contains}
-use Rattle.clauses.specs.declared.literal.Lit.{Lit}
 use Rattle.clauses.specs.Problem.{IsBelow}
 use Rattle.propagation.specs.inside.Pairing.{IsBrought, row_of}
 use Rattle.propagation.specs.inside.Trails.{code_of}
