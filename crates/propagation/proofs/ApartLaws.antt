@@ -6,7 +6,7 @@ use Rattle.std.proofs.Math.Seq.{drop-append_seam, take-length}
 use Rattle.std.proofs.lemmas.Bool.{cases_eq, cases_lt}
 use Rattle.std.proofs.lemmas.List.{get_or_past, get_or_push, length-append, length_push, length-drop, drop-append-le, take-append-le}
 use Rattle.std.proofs.lemmas.List.Elements.{All-contains, Contains-get_or}
-use Rattle.lists.proofs.Members.{first, first_or_later, none}
+use Rattle.lists.proofs.Members.{first, none}
 use Rattle.clauses.specs.declared.literal.Lit.{Lit}
 use Rattle.clauses.specs.Clause.{negative_of}
 use Rattle.clauses.specs.Problem.{IsBelow}
@@ -16,6 +16,8 @@ use Rattle.propagation.specs.inside.Trails.{code_of}
 use Rattle.propagation.specs.inside.Watching.{AreInside, AreWatches, IsApart, partner, watched_at}
 use Rattle.propagation.proofs.Codes.{code-below, code-same}
 use Rattle.propagation.proofs.ChainLaws.{chain-below}
+use Rattle.propagation.proofs.ValueLaws.{same_or_not}
+use Rattle.propagation.proofs.VisitLaws.{of-two}
 use Rattle.propagation.proofs.WatchLaws.{partner-back, partner-clause, partner-inside, row-plain}
 
 -- ---- one row more
@@ -132,24 +134,6 @@ module _ (clauses : List (List Lit)) (variables : ℕ) (pairs : Pairing) (watche
 
 -- ---- behind the last slot
 
--- a clause of two literals has no third one
-of-two : (clause : List Lit) (one other : Lit) → length clause ≡ 2 → Contains clause one → Contains clause other → one ≢ other → (l : Lit) → Contains clause l → (l ≡ one) ⊎ (l ≡ other)
-of-two [] one other n a b ne l m = absurd (none one a)
-of-two (p ∷ []) one other n a b ne l m = absurd (omega arith)
-of-two (p ∷ q ∷ r ∷ rest) one other n a b ne l m = absurd (omega arith)
-of-two (p ∷ q ∷ []) one other n a b ne l m = by (either one a) (either other b) (either l m)
-  where
-    either : (x : Lit) → Contains (p ∷ q ∷ []) x → (p ≡ x) ⊎ (q ≡ x)
-    either x k = ⊎_elim (λ (e : p ≡ x). inl e) (λ (o : Contains (q ∷ []) x). ⊎_elim (λ (e : q ≡ x). inr e) (λ (z : Contains [] x). absurd (none x z)) (first_or_later q [] x o)) (first_or_later p (q ∷ []) x k)
-
-    by : (p ≡ one) ⊎ (q ≡ one) → (p ≡ other) ⊎ (q ≡ other) → (p ≡ l) ⊎ (q ≡ l) → (l ≡ one) ⊎ (l ≡ other)
-    by (inl x) (inl y) z = absurd (ne (sym x ∙ y))
-    by (inr x) (inr y) z = absurd (ne (sym x ∙ y))
-    by (inl x) (inr y) (inl z) = inl (sym z ∙ x)
-    by (inl x) (inr y) (inr z) = inr (sym z ∙ y)
-    by (inr x) (inl y) (inl z) = inr (sym z ∙ y)
-    by (inr x) (inl y) (inr z) = inl (sym z ∙ x)
-
 module _ (clauses : List (List Lit)) (variables : ℕ) (watched : List Lit) (pairs : Pairing) (inside : AreInside clauses watched) (below : All (IsBelow variables) watched) (are : AreListed clauses watched (2 * variables) pairs) where
   low-code : (e : ℕ) → e < length watched → code_of (watched_at watched e) < 2 * variables
   low-code e i = let low = code-below variables (watched_at watched e) (All-contains (IsBelow variables) watched (watched_at watched e) below (Contains-get_or watched e (negative_of 0) i)) in omega arith
@@ -199,6 +183,9 @@ module _ (clauses : List (List Lit)) (variables : ℕ) (watched : List Lit) (pai
       let nought : start_in pairs (slot + 1) - start_in pairs slot ≡ 0 = omega arith in
       none l (subst (λ n. Contains (take n (drop (start_in pairs slot) pairs.others)) l) nought m)
 
+  either : (clause : List Lit) (one other : Lit) → length clause ≡ 2 → Contains clause one → Contains clause other → one ≢ other → (l : Lit) → Contains clause l → (l ≡ one) ⊎ (l ≡ other)
+  either clause one other size one_in other_in ne l m = ⊎_elim (λ (e : l ≡ other). inr e) (λ (n : ¬ l ≡ other). inl (of-two clause size one other one_in other_in ne l m n)) (same_or_not l other)
+
   pub listed-paired : ArePaired clauses pairs
   listed-paired one other m =
       ⊎_elim
@@ -218,5 +205,5 @@ module _ (clauses : List (List Lit)) (variables : ℕ) (watched : List Lit) (pai
           let ne : one ≢ other = λ x. is.is_pair.1 (is_one ∙ x ∙ sym is.other_is) in (
             clause,
             Contains-get_or clauses (e / 2) [] (omega arith),
-            record { one_in = one_in; other_in = other_in; only = of-two clause one other is.is_pair.0 one_in other_in ne },
+            record { one_in = one_in; other_in = other_in; only = either clause one other is.is_pair.0 one_in other_in ne },
           )

@@ -16,7 +16,7 @@ chain_count next (suc fuel) head = cond (eqb head nothing) 0 (1 + chain_count ne
 
 -- ---- one chain
 
-chain-other : (next : List ℕ) (e x head : ℕ) (row : List ℕ) → ¬ Contains row e → IsChain next head row → IsChain (set next e x) head row
+pub chain-other : (next : List ℕ) (e x head : ℕ) (row : List ℕ) → ¬ Contains row e → IsChain next head row → IsChain (set next e x) head row
 chain-other next e x head [] out c = c
 chain-other next e x head (y ∷ ys) out c =
     let other : y ≢ e = λ s. out (subst (λ z. Contains (y ∷ ys) z) s (first y ys)) in (
@@ -25,7 +25,7 @@ chain-other next e x head (y ∷ ys) out c =
       subst (λ h. IsChain (set next e x) h ys) (sym (get_or-set_other next e y x 0 other)) (chain-other next e x (get_or next y 0) ys (λ m. out (later y ys e m)) c.2),
     )
 
-chain-push : (next : List ℕ) (e head : ℕ) (row : List ℕ) → e < length next → ¬ Contains row e → IsChain next head row → IsChain (set next e head) e (e ∷ row)
+pub chain-push : (next : List ℕ) (e head : ℕ) (row : List ℕ) → e < length next → ¬ Contains row e → IsChain next head row → IsChain (set next e head) e (e ∷ row)
 chain-push next e head row inside out c = (
   refl,
   subst (λ n. e < n) (sym (length-set next e head)) inside,
@@ -46,7 +46,7 @@ pub chain-below : (next : List ℕ) (head : ℕ) (row : List ℕ) → IsChain ne
 chain-below next head [] c = λ k d l. absurd (omega arith)
 chain-below next head (y ∷ ys) c = All-cons (λ e. e < length next) y ys c.1 (chain-below next (get_or next y 0) ys c.2)
 
-chain-counted : (next : List ℕ) (head fuel : ℕ) (row : List ℕ) → length next ≤ nothing → IsChain next head row → length row ≤ fuel → chain_count next fuel head ≡ length row
+pub chain-counted : (next : List ℕ) (head fuel : ℕ) (row : List ℕ) → length next ≤ nothing → IsChain next head row → length row ≤ fuel → chain_count next fuel head ≡ length row
 chain-counted next head zero [] few c l = refl
 chain-counted next head (suc fuel) [] few c l = ap (λ b. cond b 0 (1 + chain_count next fuel (get_or next head 0))) (eq-eqb head nothing c)
 chain-counted next head zero (y ∷ ys) few c l = absurd (omega arith)

@@ -9,6 +9,7 @@ pub mod TrailValues
 pub mod PairLaws
 pub mod ChainLaws
 pub mod ChainMoves
+pub mod UnlinkLaws
 pub mod WatchLaws
 pub mod WalkLaws
 pub mod SortLaws

@@ -1,15 +1,15 @@
 -- What becomes of a clause that is looked at.
-use Rattle.std.proofs.Common.{◌≡◌, ◌∙◌, ◌⊎◌, refl, sym, subst, inl, inr, ⊎_elim, ℕ, ◌+◌, ◌<◌, ◌≤◌, Bool, true, false, List, [], ◌∷◌, ◌++◌, length, get_or, take, arith}
-use Rattle.std.specs.Prelude.{◌≢◌, Contains, None}
-use Rattle.std.proofs.lemmas.Bool.{false≢true}
+use Rattle.std.proofs.Common.{◌≡◌, ◌∙◌, ◌⊎◌, refl, sym, subst, inl, inr, ⊎_elim, ℕ, ◌+◌, ◌<◌, ◌≤◌, List, [], ◌∷◌, ◌++◌, length, get_or, set, take, arith}
+use Rattle.std.specs.Prelude.{◌≢◌, Contains}
 use Rattle.std.proofs.lemmas.List.{take_more, take_all}
 use Rattle.std.proofs.lemmas.List.Elements.{Contains-append_right, Contains-push_cases}
 use Rattle.lists.proofs.Members.{first, first_or_later, none}
 use Rattle.clauses.specs.declared.literal.Lit.{Lit}
 use Rattle.clauses.specs.Clause.{negation, negative_of}
+use Rattle.propagation.specs.declared.visits.Visit.{Visit}
 use Rattle.propagation.specs.declared.visits.Visit.TheVariants as visit
 use Rattle.propagation.specs.inside.Trails.{Trailing}
-use Rattle.propagation.specs.inside.Visits.{IsReplacement, IsStep, IsVisit}
+use Rattle.propagation.specs.inside.Visits.{IsStep, IsVisit}
 use Rattle.propagation.specs.inside.Watching.{IsRefuted}
 use Rattle.propagation.proofs.ValueLaws.{All-members}
 
@@ -62,37 +62,24 @@ of-two (p ∷ q ∷ []) size a b a_in b_in apart x m ne =
     (two p q a a_in))
     (two p q x m)
 
-pub refuted-step : (spare entry : ℕ) (clause : List Lit) (other : Lit) (watched : List Lit) (old new : Trailing) (before : Bool)
-    → (new ≡ old) × IsReplacement old.literals clause other None × Contains old.literals (negation other) → IsStep spare entry clause other watched watched old new before false spare
-refuted-step spare entry clause other watched old new before is =
-    inl (
-      refl,
-      refl,
-      record {
-        grown = inl is.0;
-        seen = λ t. absurd (false≢true t);
-        refuted = λ _. (is.0, inr (all-refuted old.literals clause other is.1 is.2));
-      },
-    )
+pub stays-there : (clause : List Lit) (other : Lit) (old new : Trailing) → IsVisit old new clause other visit.Stays → Contains new.literals other
+stays-there clause other old new is =
+    ⊎_elim
+    (λ (there : (new ≡ old) × Contains old.literals other). subst (λ (n : Trailing). Contains n.literals other) (sym there.0) there.1)
+    (λ (forced : (new ≡ record old { literals = old.literals ++ other ∷ [] }) × ((l : Lit) → Contains clause l → l ≢ other → Contains old.literals (negation l))).
+    subst (λ (n : Trailing). Contains n.literals other) (sym forced.0) (Contains-append_right old.literals (other ∷ []) other (first other [])))
+    is
 
-pub stays-step : (spare entry : ℕ) (clause : List Lit) (other : Lit) (watched : List Lit) (old new : Trailing) (before : Bool) → before ≡ true → IsVisit old new clause other visit.Stays → IsStep spare entry clause other watched watched old new before before spare
-stays-step spare entry clause other watched old new before fits is =
-    inl (
-      refl,
-      refl,
-      record {
-        grown = ⊎_elim (λ (there : (new ≡ old) × Contains old.literals other). inl there.0) inr is;
-        seen = λ t. (
-          t,
-          ⊎_elim
-              (λ (there : (new ≡ old) × Contains old.literals other). subst (λ (n : Trailing). Contains n.literals other) (sym there.0) there.1)
-              (λ (forced : (new ≡ record old { literals = old.literals ++ other ∷ [] }) × ((l : Lit) → Contains clause l → l ≢ other → Contains old.literals (negation l))).
-              subst (λ (n : Trailing). Contains n.literals other) (sym forced.0) (Contains-append_right old.literals (other ∷ []) other (first other [])))
-              is,
-        );
-        refuted = λ f. absurd (false≢true (sym f ∙ fits));
-      },
-    )
+pub stays-grown : (clause : List Lit) (other : Lit) (old new : Trailing) → IsVisit old new clause other visit.Stays
+    → (new ≡ old) ⊎ ((new ≡ record old { literals = old.literals ++ other ∷ [] }) × ((l : Lit) → Contains clause l → l ≢ other → Contains old.literals (negation l)))
+stays-grown clause other old new is = ⊎_elim (λ (there : (new ≡ old) × Contains old.literals other). inl there.0) inr is
+
+-- a clause that was looked at, and what is watched then
+pub step-from : (entry : ℕ) (clause : List Lit) (other : Lit) (watched now : List Lit) (old new : Trailing) (v : Visit) → IsVisit old new clause other v → ((found : Lit) → v ≡ visit.Moves found → now ≡ set watched entry found)
+    → (((found : Lit) → ¬ v ≡ visit.Moves found) → now ≡ watched) → IsStep entry clause other watched now old new v
+step-from entry clause other watched now old new visit.Stays is a b = (b (λ found e. absurd (cc)), stays-there clause other old new is, stays-grown clause other old new is)
+step-from entry clause other watched now old new (visit.Moves found) is a b = (a found refl, is.0, is.1, is.2)
+step-from entry clause other watched now old new visit.Refuted is a b = (b (λ found e. absurd (cc)), is.0, all-refuted old.literals clause other is.1 is.2)
 
 -- what holds of the literals of a clause so far
 module _ (P : Lit → Type 0) (clause : List Lit) where

@@ -1,9 +1,10 @@
 -- The walk along the chain of a literal that is false now.
-use Rattle.std.proofs.Common.{◌≡◌, ◌∙◌, ◌⊎◌, refl, sym, ap, subst, inl, inr, ⊎_elim, ℕ, ◌+◌, ◌*◌, ◌/◌, ◌<◌, ◌≤◌, Bool, true, false, List, [], ◌∷◌, ◌++◌, length, get_or, set, append_assoc, arith}
+use Rattle.std.proofs.Common.{◌≡◌, ◌∙◌, ◌⊎◌, refl, sym, ap, subst, inl, inr, ⊎_elim, ℕ, ◌+◌, ◌*◌, ◌/◌, ◌<◌, ◌≤◌, List, [], ◌∷◌, ◌++◌, length, get_or, set, append_assoc, arith}
 use Rattle.std.specs.Prelude.{All, Any, Contains, ◌≢◌, Some}
 use Rattle.std.proofs.lemmas.Bool.{cases_eq, false≢true}
-use Rattle.std.proofs.lemmas.List.{append-nil, get_or-set_same, get_or-set_other, length-set}
-use Rattle.std.proofs.lemmas.List.Elements.{All-contains, All-set, Contains-append_left, Contains-get_or, Contains-push_cases}
+use Rattle.std.proofs.lemmas.List.{append-nil, get_or-set_same, get_or-set_other, length-append, length-set}
+use Rattle.std.proofs.lemmas.List.Elements.{All-contains, All-set, Contains-append_left, Contains-append_right, Contains-get_or, Contains-push_cases}
+use Rattle.lists.specs.Distinct.{IsDistinct}
 use Rattle.lists.proofs.Members.{first, none}
 use Rattle.clauses.specs.declared.literal.Lit.{Lit}
 use Rattle.clauses.specs.Clause.{negation, negative_of}
@@ -13,12 +14,14 @@ use Rattle.clauses.proofs.LeastLaws.{closure-closed}
 use Rattle.clauses.proofs.Literals.{has-from}
 use Rattle.propagation.specs.inside.Pairing.{Pairing, row_of}
 use Rattle.propagation.specs.inside.Trails.{IsOneSigned, Trailing, code_of}
-use Rattle.propagation.specs.inside.Visits.{IsReplacement, IsStep, Stays}
-use Rattle.propagation.specs.inside.Watching.{AreChains, AreCovered, AreInside, AreKept, AreWatches, IsApart, IsCovered, IsGrowth, IsRefuted, IsSubset, nothing, partner, watched_at}
+use Rattle.propagation.specs.declared.visits.Visit.TheVariants as visit
+use Rattle.propagation.specs.inside.Visits.{IsReplacement, IsStep}
+use Rattle.propagation.specs.inside.Watching.{AreChains, AreCovered, AreInside, AreKept, AreWatches, IsApart, IsCovered, IsChain, IsGrowth, IsRefuted, IsRelinked, IsSubset, nothing, partner, watched_at}
 use Rattle.propagation.proofs.ValueLaws.{Any-member}
 use Rattle.propagation.proofs.Codes.{code-below, code-same}
-use Rattle.propagation.proofs.ChainLaws.{counted, chain_count, place-same, place-other, row-empty, row-same, row-some, shift-chains, shifted, shifted_place, head-inside, with_row}
-use Rattle.propagation.proofs.ChainMoves.{rename-chains, swapped, swapped_place, swapped-spare, swapped-other, renamed-size}
+use Rattle.propagation.proofs.ChainLaws.{chain-below, chain-counted, chain_count, place-same, place-other, row-same, with_row}
+use Rattle.propagation.proofs.RoomLaws.{distinct-few}
+use Rattle.propagation.proofs.UnlinkLaws.{IsLast, last-next, middle-out, relink-behind, relink-chains, relink-sizes, relinked as relinked_rows, relinked_place}
 use Rattle.propagation.proofs.WatchLaws.{apart-same, partner-back, partner-clause, partner-inside, partner-other}
 
 -- ---- growth
@@ -55,197 +58,190 @@ module _ (clauses : List (List Lit)) where
 -- ---- what stands on the way
 
 module _ (clauses : List (List Lit)) (literal : Lit) (variables : ℕ) (pairs : Pairing) (watched0 : List Lit) (trail0 : Trailing) where
-  abbrev spare : ℕ
-  spare = 2 * variables
-
-  -- an entry is put aside: its clause is in order, unless some clause is refuted
-  abbrev pub IsAside : (ℕ → ℕ) → List Lit → Trailing → Bool → ℕ → Type 0
-  IsAside place watched trail fits e = (place e ≡ 2 * variables) × (watched_at watched e ≡ literal) × (fits ≡ true → Contains trail.literals (watched_at watched (partner e)))
-
-  -- an entry watches the literal of its slot, or is put aside, or is apart
-  abbrev pub IsKnown : (ℕ → ℕ) → List Lit → Trailing → Bool → ℕ → Type 0
-  IsKnown place watched trail fits e = (place e ≡ code_of (watched_at watched e)) ⊎ (IsAside place watched trail fits e ⊎ IsApart variables pairs watched place e)
-
-  pub record IsWalk (heads next : List ℕ) (watched : List Lit) (trail : Trailing) (fits : Bool) : Type 0 where
-    pub rows : ℕ → List ℕ
-    pub place : ℕ → ℕ
-    pub chains : AreChains heads next rows place
-    pub sized : length next ≡ length watched
-    pub slots : length heads ≡ 2 * variables + 2
-    pub below : All (IsBelow variables) watched
+  -- the entries of the chain up to the last one that stays are seen, and the others wait
+  pub record IsWalk (heads next : List ℕ) (watched : List Lit) (trail : Trailing) (last entry : ℕ) : Type 0 where
+    pub are : AreWatches variables pairs watched heads next
+    pub before : List ℕ
+    pub after : List ℕ
+    pub row : are.rows (code_of literal) ≡ before ++ after
+    pub behind : IsChain next entry after
+    pub is_last : IsLast before last
+    pub seen : (e : ℕ) → Contains before e → Contains trail.literals (watched_at watched (partner e))
     pub inside : AreInside clauses watched
-    pub known : (e : ℕ) → e < length watched → IsKnown place watched trail fits e
     pub growth : IsGrowth clauses trail0 trail
     pub kept : AreKept trail0.literals watched0 watched
-    pub refuted : fits ≡ false → Any (IsRefuted trail.literals) clauses
 
-  pub walk-start : (heads next : List ℕ) → AreWatches variables pairs watched0 heads next → AreInside clauses watched0 → IsWalk heads next watched0 trail0 true
-  walk-start heads next are within = record {
-    rows = are.rows;
-    place = are.place;
-    chains = are.chains;
-    sized = are.sized;
-    slots = are.slots;
-    below = are.below;
-    inside = within;
-    known = λ e i. ⊎_elim (λ (a : are.place e ≡ code_of (watched_at watched0 e)). inl a) (λ (b : IsApart variables pairs watched0 are.place e). inr (inr b)) (are.watching e i);
-    growth = growth-none clauses trail0;
-    kept = λ done set a b c. c;
-    refuted = λ f. absurd (false≢true (sym f));
-  }
-
-  module _ (literal_in : literal.var < variables) (is_false : Contains trail0.literals (negation literal)) (heads next : List ℕ) (watched : List Lit) (trail : Trailing) (fits : Bool) (is : IsWalk heads next watched trail fits) (few : length next ≤ nothing) where
+  module _ (literal_in : literal.var < variables) where
     abbrev from : ℕ
     from = code_of literal
 
-    pub from-in : from < length heads
-    from-in = let low = code-below variables literal literal_in in let size = is.slots in omega arith
+    pub walk-start : (heads next : List ℕ) → AreWatches variables pairs watched0 heads next → AreInside clauses watched0 → IsWalk heads next watched0 trail0 nothing (get_or heads from 0)
+    walk-start heads next are within = record {
+      are = are;
+      before = [];
+      after = are.rows from;
+      row = refl;
+      behind = are.chains.chained from (let low = code-below variables literal literal_in in let size = are.slots in omega arith);
+      is_last = inl (refl, refl);
+      seen = λ e m. absurd (none e m);
+      inside = within;
+      growth = growth-none clauses trail0;
+      kept = λ done set a b c. c;
+    }
 
-    pub spare-in : spare < length heads
-    spare-in = let size = is.slots in omega arith
+    module _ (is_false : Contains trail0.literals (negation literal)) (heads next : List ℕ) (watched : List Lit) (trail : Trailing) (last entry : ℕ) (is : IsWalk heads next watched trail last entry) (few : length next ≤ nothing) where
+      pub from-in : from < length heads
+      from-in = let low = code-below variables literal literal_in in let size = is.are.slots in omega arith
 
-    pub from-spare : from ≢ spare
-    from-spare e = let low = code-below variables literal literal_in in omega arith
+      falsified : Contains trail.literals (negation literal)
+      falsified = growth-within clauses trail0 trail is.growth (negation literal) is_false
 
-    pub falsified : Contains trail.literals (negation literal)
-    falsified = growth-within clauses trail0 trail is.growth (negation literal) is_false
+      walk-left : chain_count next (length next) entry ≡ length is.after
+      walk-left =
+          let all = distinct-few (length next) (is.are.rows from) (is.are.chains.once from from-in) (chain-below next (get_or heads from 0) (is.are.rows from) (is.are.chains.chained from from-in)) in
+          let size = ap length is.row in
+          let sum = length-append is.before is.after in
+          chain-counted next entry (length next) is.after few is.behind (omega arith)
 
-    -- ---- a step
-    module _ (some : get_or heads from 0 ≢ nothing) where
-      abbrev entry : ℕ
-      entry = get_or heads from 0
+      -- ---- a step
+      module _ (some : entry ≢ nothing) where
+        tail : (entries : List ℕ) × (is.after ≡ entry ∷ entries)
+        tail = by_row is.after is.behind
+          where
+            by_row : (row : List ℕ) → IsChain next entry row → (entries : List ℕ) × (row ≡ entry ∷ entries)
+            by_row [] c = absurd (some c)
+            by_row (y ∷ ys) c = (ys, ap (λ e. e ∷ ys) (sym c.0))
 
-      row : (entries : List ℕ) × (is.rows from ≡ entry ∷ entries)
-      row = row-some heads next is.rows is.place is.chains from from-in some
+        row-here : is.are.rows from ≡ is.before ++ entry ∷ tail.0
+        row-here = is.row ∙ ap (λ ls. is.before ++ ls) tail.1
 
-      pub entry-next : entry < length next
-      entry-next = head-inside heads next is.rows is.place is.chains from from-in some
+        there : Contains (is.are.rows from) entry
+        there = subst (λ r. Contains r entry) (sym row-here) (Contains-append_right is.before (entry ∷ tail.0) entry (first entry tail.0))
 
-      pub entry-watched : entry < length watched
-      entry-watched = let i = entry-next in let s = is.sized in omega arith
+        pub entry-next : entry < length next
+        entry-next = All-contains (λ x. x < length next) (is.are.rows from) entry (chain-below next (get_or heads from 0) (is.are.rows from) (is.are.chains.chained from from-in)) there
 
-      entry-place : is.place entry ≡ from
-      entry-place = is.chains.placed from entry from-in (subst (λ r. Contains r entry) (sym row.1) (first entry row.0))
+        pub entry-watched : entry < length watched
+        entry-watched = let i = entry-next in let s = is.are.sized in omega arith
 
-      -- it isn't apart, nor the partner of one that is
-      entry-here : ¬ is.place entry ≡ 2 * variables + 1
-      entry-here e = let low = code-below variables literal literal_in in let p = entry-place in omega arith
+        entry-place : is.are.place entry ≡ from
+        entry-place = is.are.chains.placed from entry from-in there
 
-      apart-else : (w : List Lit) (x : ℕ) → IsApart variables pairs w is.place x → ¬ partner x ≡ entry
-      apart-else w x b p = entry-here (ap is.place (sym p) ∙ b.there)
+        -- it isn't apart, nor the partner of one that is
+        entry-here : ¬ is.are.place entry ≡ 2 * variables + 1
+        entry-here e = let low = code-below variables literal literal_in in let p = entry-place in omega arith
 
-      watches-it : watched_at watched entry ≡ literal
-      watches-it =
-          ⊎_elim
-          (λ (a : is.place entry ≡ code_of (watched_at watched entry)). code-same (watched_at watched entry) literal (sym a ∙ entry-place))
-          (λ (r : IsAside is.place watched trail fits entry ⊎ IsApart variables pairs watched is.place entry).
-          ⊎_elim (λ (b : IsAside is.place watched trail fits entry). b.1) (λ (x : IsApart variables pairs watched is.place entry). absurd (entry-here x.here)) r)
-          (is.known entry entry-watched)
+        apart-else : (x : ℕ) → IsApart variables pairs watched is.are.place x → ¬ partner x ≡ entry
+        apart-else x b p = entry-here (ap is.are.place (sym p) ∙ b.there)
 
-      clause-in : entry / 2 < length clauses
-      clause-in = let i = entry-watched in let s = is.inside.0 in omega arith
-
-      abbrev clause : List Lit
-      clause = get_or clauses (entry / 2) []
-
-      abbrev other : Lit
-      other = watched_at watched (partner entry)
-
-      clause-there : Contains clauses clause
-      clause-there = Contains-get_or clauses (entry / 2) [] clause-in
-
-      partner-in : partner entry < length watched
-      partner-in = let i = entry-watched in let s = is.inside.0 in let p = partner-inside (length clauses) entry (omega arith) in omega arith
-
-      pub literal-there : Contains clause literal
-      literal-there = subst (Contains clause) watches-it (is.inside.1 entry entry-watched)
-
-      pub other-there : Contains clause other
-      other-there = subst (λ k. Contains (get_or clauses k []) other) (partner-clause entry) (is.inside.1 (partner entry) partner-in)
-
-      module _ (to : ℕ) (to_in : to < length heads) (apart : from ≢ to) where
-        abbrev heads' : List ℕ
-        heads' = set (set heads from (get_or next entry 0)) to entry
-
-        abbrev next' : List ℕ
-        next' = set next entry (get_or heads to 0)
-
-        chains' : AreChains heads' next' (shifted heads next is.rows is.place is.chains from to from-in to_in apart entry row.0 row.1) (shifted_place heads next is.rows is.place is.chains from to from-in to_in apart entry row.0 row.1)
-        chains' = shift-chains heads next is.rows is.place is.chains from to from-in to_in apart entry row.0 row.1
-
-        pub smaller : chain_count next' (length next') (get_or heads' from 0) < chain_count next (length next) (get_or heads from 0)
-        smaller =
-            let size : length next' ≡ length next = length-set next entry (get_or heads to 0) in
-            let heads_size : length heads' ≡ length heads = length-set (set heads from (get_or next entry 0)) to entry ∙ length-set heads from (get_or next entry 0) in
-            let new = counted heads' next' _ _ chains' from (let f = from-in in omega arith) (omega arith) in
-            let old = counted heads next is.rows is.place is.chains from from-in few in
-            let here : length (shifted heads next is.rows is.place is.chains from to from-in to_in apart entry row.0 row.1 from) ≡ length row.0 = ap length (row-same (with_row is.rows to (entry ∷ is.rows to)) from row.0 from refl) in
-            let was = ap length row.1 in
-            omega arith
-
-        known-rest : (w : List Lit) (t : Trailing) (f : Bool) → ((x : ℕ) → x < length watched → x ≢ entry → IsKnown is.place w t f x) → IsKnown (shifted_place heads next is.rows is.place is.chains from to from-in to_in apart entry row.0 row.1) w t f entry
-            → (x : ℕ) → x < length watched → IsKnown (shifted_place heads next is.rows is.place is.chains from to from-in to_in apart entry row.0 row.1) w t f x
-        known-rest w t f rest here x i =
+        watches-it : watched_at watched entry ≡ literal
+        watches-it =
             ⊎_elim
-            (λ (e : x ≡ entry). subst (IsKnown (shifted_place heads next is.rows is.place is.chains from to from-in to_in apart entry row.0 row.1) w t f) (sym e) here)
-            (λ (ne : ¬ x ≡ entry).
+            (λ (a : is.are.place entry ≡ code_of (watched_at watched entry)). code-same (watched_at watched entry) literal (sym a ∙ entry-place))
+            (λ (b : IsApart variables pairs watched is.are.place entry). absurd (entry-here b.here))
+            (is.are.watching entry entry-watched)
+
+        clause-in : entry / 2 < length clauses
+        clause-in = let i = entry-watched in let s = is.inside.0 in omega arith
+
+        abbrev clause : List Lit
+        clause = get_or clauses (entry / 2) []
+
+        abbrev other : Lit
+        other = watched_at watched (partner entry)
+
+        clause-there : Contains clauses clause
+        clause-there = Contains-get_or clauses (entry / 2) [] clause-in
+
+        partner-in : partner entry < length watched
+        partner-in = let i = entry-watched in let s = is.inside.0 in let p = partner-inside (length clauses) entry (omega arith) in omega arith
+
+        pub literal-there : Contains clause literal
+        literal-there = subst (Contains clause) watches-it (is.inside.1 entry entry-watched)
+
+        pub other-there : Contains clause other
+        other-there = subst (λ k. Contains (get_or clauses k []) other) (partner-clause entry) (is.inside.1 (partner entry) partner-in)
+
+        -- the last that stays isn't this one
+        pub last-apart : (last ≡ nothing) ⊎ ((last < length next) × (last ≢ entry))
+        last-apart =
             ⊎_elim
-            (λ (a : is.place x ≡ code_of (watched_at w x)). inl (place-other is.place entry to x ne ∙ a))
-            (λ (r : IsAside is.place w t f x ⊎ IsApart variables pairs w is.place x).
-            inr
-            (⊎_elim
-            (λ (b : IsAside is.place w t f x). inl (place-other is.place entry to x ne ∙ b.0, b.1, b.2))
-            (λ (b : IsApart variables pairs w is.place x).
-            inr (apart-same variables pairs w w is.place _ x b (omega arith) refl refl (place-other is.place entry to x ne) (place-other is.place entry to (partner x) (apart-else w x b))))
-            r))
-            (rest x i ne))
-            (cases_eq x entry)
+            (λ (n : (is.before ≡ []) × (last ≡ nothing)). inl n.1)
+            (λ (b : (front : List ℕ) × (is.before ≡ front ++ last ∷ [])).
+            let whole : is.are.rows from ≡ b.0 ++ last ∷ entry ∷ tail.0 = row-here ∙ ap (λ ls. ls ++ entry ∷ tail.0) b.1 ∙ append_assoc b.0 (last ∷ []) (entry ∷ tail.0) in
+            let in_row : Contains (is.are.rows from) last = subst (λ r. Contains r last) (sym whole) (Contains-append_right b.0 (last ∷ entry ∷ tail.0) last (first last (entry ∷ tail.0))) in
+            inr (
+              All-contains (λ x. x < length next) (is.are.rows from) last (chain-below next (get_or heads from 0) (is.are.rows from) (is.are.chains.chained from from-in)) in_row,
+              (λ e. middle-out b.0 (entry ∷ tail.0) last (subst IsDistinct whole (is.are.chains.once from from-in))
+                  (Contains-append_right b.0 (entry ∷ tail.0) last (subst (Contains (entry ∷ tail.0)) (sym e) (first entry tail.0)))),
+            ))
+            is.is_last
 
-        sized' : length next' ≡ length watched
-        sized' = length-set next entry (get_or heads to 0) ∙ is.sized
-
-        slots' : length heads' ≡ 2 * variables + 2
-        slots' = length-set (set heads from (get_or next entry 0)) to entry ∙ length-set heads from (get_or next entry 0) ∙ is.slots
-
-        pub walk-stays : to ≡ spare → (now : Trailing) (after : Bool) → Stays clause other trail now fits after → IsWalk heads' next' watched now after
-        walk-stays at now after stays = record {
-          rows = shifted heads next is.rows is.place is.chains from to from-in to_in apart entry row.0 row.1;
-          place = shifted_place heads next is.rows is.place is.chains from to from-in to_in apart entry row.0 row.1;
-          chains = chains';
-          sized = sized';
-          slots = slots';
-          below = is.below;
-          inside = is.inside;
-          known =
-              known-rest watched now after
-              (λ x i ne.
+        -- ---- it stays
+        pub walk-stays : (new : Trailing) → IsStep entry clause other watched watched trail new visit.Stays → IsWalk heads next watched new entry (get_or next entry 0)
+        walk-stays new step = record {
+          are = is.are;
+          before = is.before ++ entry ∷ [];
+          after = tail.0;
+          row = row-here ∙ sym (append_assoc is.before (entry ∷ []) tail.0);
+          behind = (subst (IsChain next entry) tail.1 is.behind).2;
+          is_last = last-next is.before entry;
+          seen = λ x m.
               ⊎_elim
-              (λ (a : is.place x ≡ code_of (watched_at watched x)). inl a)
-              (λ (r : IsAside is.place watched trail fits x ⊎ IsApart variables pairs watched is.place x).
-              inr
-              (⊎_elim
-              (λ (b : IsAside is.place watched trail fits x). inl (b.0, b.1, (λ t. growth-within clauses trail now grows (watched_at watched (partner x)) (b.2 (stays.seen t).0))))
-              (λ (b : IsApart variables pairs watched is.place x). inr b)
-              r))
-              (is.known x i))
-              (inr (inl (place-same is.place entry to entry refl ∙ at, watches-it, (λ t. (stays.seen t).1))));
-          growth = growth-then clauses trail0 trail now is.growth grows;
+              (λ (o : Contains is.before x). growth-within clauses trail new grows (watched_at watched (partner x)) (is.seen x o))
+              (λ (n : entry ≡ x). subst (λ k. Contains new.literals (watched_at watched (partner k))) n step.1)
+              (Contains-push_cases is.before entry x m);
+          inside = is.inside;
+          growth = growth-then clauses trail0 trail new is.growth grows;
           kept = is.kept;
-          refuted = λ f.
-              let why = stays.refuted f in
-              subst (λ (t : Trailing). Any (IsRefuted t.literals) clauses) (sym why.0)
-              (⊎_elim (λ (old : fits ≡ false). is.refuted old) (λ (here : IsRefuted trail.literals clause). Any-member (IsRefuted trail.literals) clauses clause clause-there here) why.1);
         }
           where
-            grows : IsGrowth clauses trail now
+            grows : IsGrowth clauses trail new
             grows =
                 ⊎_elim
-                (λ (e : now ≡ trail). subst (λ (t : Trailing). IsGrowth clauses trail t) (sym e) (growth-none clauses trail))
-                (λ (e : (now ≡ record trail { literals = trail.literals ++ other ∷ [] }) × ((l : Lit) → Contains clause l → l ≢ other → Contains trail.literals (negation l))).
-                growth-forced clauses trail now clause other clause-there other-there e.0 e.1)
-                stays.grown
+                (λ (e : new ≡ trail). subst (λ (t : Trailing). IsGrowth clauses trail t) (sym e) (growth-none clauses trail))
+                (λ (e : (new ≡ record trail { literals = trail.literals ++ other ∷ [] }) × ((l : Lit) → Contains clause l → l ≢ other → Contains trail.literals (negation l))).
+                growth-forced clauses trail new clause other clause-there other-there e.0 e.1)
+                step.2
 
-        module _ (found : Lit) (at : to ≡ code_of found) (found_below : found.var < variables) (is_replacement : IsReplacement trail.literals clause other (Some found)) (one_signed : IsOneSigned trail.literals) (fits_so : fits ≡ true) where
+        tail-few : length tail.0 < length next
+        tail-few =
+            let all = distinct-few (length next) (is.are.rows from) (is.are.chains.once from from-in) (chain-below next (get_or heads from 0) (is.are.rows from) (is.are.chains.chained from from-in)) in
+            let size = ap length row-here in
+            let sum = length-append is.before (entry ∷ tail.0) in
+            omega arith
+
+        pub stays-smaller : chain_count next (length next) (get_or next entry 0) < chain_count next (length next) entry
+        stays-smaller =
+            let rest = chain-counted next (get_or next entry 0) (length next) tail.0 few (subst (IsChain next entry) tail.1 is.behind).2 (let less = tail-few in omega arith) in
+            let all = walk-left in
+            let size = ap length tail.1 in
+            omega arith
+
+        -- ---- its clause is refuted
+        pub walk-refuted : (now : List Lit) (new : Trailing) → IsStep entry clause other watched now trail new visit.Refuted → Any (IsRefuted new.literals) clauses
+        walk-refuted now new step = subst (λ (t : Trailing). Any (IsRefuted t.literals) clauses) (sym step.1) (Any-member (IsRefuted trail.literals) clauses clause clause-there step.2)
+
+        -- ---- it moves
+        module _ (clauses_below : All (All (IsBelow variables)) clauses) (found : Lit) (now : List Lit) (new : Trailing) (step : IsStep entry clause other watched now trail new (visit.Moves found)) where
+          abbrev is_replacement : IsReplacement trail.literals clause other (Some found)
+          is_replacement = step.2
+
+          abbrev one_signed : IsOneSigned trail.literals
+          one_signed = step.3
+
+          found_below : found.var < variables
+          found_below = All-contains (IsBelow variables) clause found (All-contains (All (IsBelow variables)) clauses clause clauses_below clause-there) is_replacement.0
+
+          abbrev to : ℕ
+          to = code_of found
+
+          pub to-in : to < length heads
+          to-in = let low = code-below variables found found_below in let size = is.are.slots in omega arith
+
+          pub to-apart : from ≢ to
+          to-apart e = false≢true (sym is_replacement.2 ∙ has-from trail.literals (negation found) (subst (λ (l : Lit). Contains trail.literals (negation l)) (code-same literal found e) falsified))
+
           abbrev watched' : List Lit
           watched' = set watched entry found
 
@@ -315,120 +311,84 @@ module _ (clauses : List (List Lit)) (literal : Lit) (variables : ℕ) (pairs : 
                 (cases_eq x entry)),
           )
 
-          pub walk-moves : IsWalk heads' next' watched' trail true
-          walk-moves = record {
-            rows = shifted heads next is.rows is.place is.chains from to from-in to_in apart entry row.0 row.1;
-            place = shifted_place heads next is.rows is.place is.chains from to from-in to_in apart entry row.0 row.1;
-            chains = chains';
-            sized = sized' ∙ sym (length-set watched entry found);
-            slots = slots';
-            below = All-set (IsBelow variables) watched entry found found_below is.below;
-            inside = inside';
-            known = λ x i.
-                known-rest watched' trail true
-                (λ y j ne.
+          module _ (heads' next' : List ℕ) (relinked : IsRelinked heads next from last entry to heads' next') where
+            abbrev place' : ℕ → ℕ
+            place' = relinked_place heads next is.are.rows is.are.place is.are.chains from to from-in to-in to-apart is.before tail.0 entry row-here
+
+            sizes : (length heads' ≡ length heads) × (length next' ≡ length next)
+            sizes = relink-sizes heads next is.are.rows is.are.place is.are.chains from to from-in to-in to-apart is.before tail.0 entry row-here last is.is_last few heads' next' relinked
+
+            abbrev rows' : ℕ → List ℕ
+            rows' = relinked_rows heads next is.are.rows is.are.place is.are.chains from to from-in to-in to-apart is.before tail.0 entry row-here
+
+            chains' : AreChains heads' next' rows' place'
+            chains' = relink-chains heads next is.are.rows is.are.place is.are.chains from to from-in to-in to-apart is.before tail.0 entry row-here last is.is_last few heads' next' relinked
+
+            watching' : (x : ℕ) → x < length watched' → (place' x ≡ code_of (watched_at watched' x)) ⊎ IsApart variables pairs watched' place' x
+            watching' x i =
                 ⊎_elim
-                (λ (a : is.place y ≡ code_of (watched_at watched y)). inl (a ∙ ap code_of (sym (else' y ne))))
-                (λ (r : IsAside is.place watched trail fits y ⊎ IsApart variables pairs watched is.place y).
-                inr
-                (⊎_elim
-                (λ (b : IsAside is.place watched trail fits y).
-                let seen : Contains trail.literals (watched_at watched (partner y)) = b.2 fits_so in
-                let other_one : ¬ partner y ≡ entry = λ p. not-literal (subst (Contains trail.literals) (ap (watched_at watched) p ∙ watches-it) seen) in
-                inl (b.0, else' y ne ∙ b.1, (λ t. subst (Contains trail.literals) (sym (else' (partner y) other_one)) seen)))
-                (λ (b : IsApart variables pairs watched is.place y).
-                inr (apart-same variables pairs watched watched' is.place is.place y b (let size = length-set watched entry found in omega arith) (else' y ne) (else' (partner y) (apart-else watched y b)) refl refl))
-                r))
-                (is.known y j))
-                (inl (place-same is.place entry to entry refl ∙ at ∙ ap code_of (sym here')))
-                x (subst (λ n. x < n) (length-set watched entry found) i);
-            growth = is.growth;
-            kept = kept';
-            refuted = λ f. absurd (false≢true (sym f));
-          }
+                (λ (e : x ≡ entry). inl (place-same is.are.place entry to x e ∙ ap code_of (sym (ap (watched_at watched') e ∙ here'))))
+                (λ (ne : ¬ x ≡ entry).
+                ⊎_elim
+                (λ (a : is.are.place x ≡ code_of (watched_at watched x)). inl (place-other is.are.place entry to x ne ∙ a ∙ ap code_of (sym (else' x ne))))
+                (λ (b : IsApart variables pairs watched is.are.place x).
+                let np = apart-else x b in
+                let size = length-set watched entry found in
+                inr (apart-same variables pairs watched watched' is.are.place place' x b (omega arith) (else' x ne) (else' (partner x) np) (place-other is.are.place entry to x ne) (place-other is.are.place entry to (partner x) np)))
+                (is.are.watching x (subst (λ n. x < n) (length-set watched entry found) i)))
+                (cases_eq x entry)
 
-      -- where the entry goes, and what stands then
-      module _ (clauses_below : All (All (IsBelow variables)) clauses) (now : List Lit) (new : Trailing) (after : Bool) (to : ℕ) (step : IsStep spare entry clause other watched now trail new fits after to) where
-        found-below : (found : Lit) → IsReplacement trail.literals clause other (Some found) → found.var < variables
-        found-below found is_replacement = All-contains (IsBelow variables) clause found (All-contains (All (IsBelow variables)) clauses clause clauses_below clause-there) is_replacement.0
+            pub moves-smaller : chain_count next' (length next') (get_or next entry 0) < chain_count next (length next) entry
+            moves-smaller =
+                let same = sizes.1 in
+                let behind' = relink-behind heads next is.are.rows is.are.place is.are.chains from to from-in to-in to-apart is.before tail.0 entry row-here last is.is_last few heads' next' relinked in
+                let rest = chain-counted next' (get_or next entry 0) (length next') tail.0 (omega arith) behind' (let less = tail-few in omega arith) in
+                let all = walk-left in
+                let size = ap length tail.1 in
+                omega arith
 
-        pub step-inside : to < length heads
-        step-inside =
-            ⊎_elim
-            (λ (s : (to ≡ spare) × (now ≡ watched) × Stays clause other trail new fits after). subst (λ k. k < length heads) (sym s.0) spare-in)
-            (λ (m : (found : Lit) × (to ≡ code_of found) × (now ≡ set watched entry found) × (new ≡ trail) × IsReplacement trail.literals clause other (Some found) × IsOneSigned trail.literals × (fits ≡ true) × (after ≡ true)).
-            let low = code-below variables m.0 (found-below m.0 m.4) in
-            let at = m.1 in
-            let size = is.slots in
-            omega arith)
-            step
+            moved : IsWalk heads' next' watched' trail last (get_or next entry 0)
+            moved = record {
+              are = record {
+                rows = rows';
+                place = place';
+                chains = chains';
+                sized = sizes.1 ∙ is.are.sized ∙ sym (length-set watched entry found);
+                slots = sizes.0 ∙ is.are.slots;
+                below = All-set (IsBelow variables) watched entry found found_below is.are.below;
+                watching = watching';
+              };
+              before = is.before;
+              after = tail.0;
+              row = row-same (with_row is.are.rows to (entry ∷ is.are.rows to)) from (is.before ++ tail.0) from refl;
+              behind = relink-behind heads next is.are.rows is.are.place is.are.chains from to from-in to-in to-apart is.before tail.0 entry row-here last is.is_last few heads' next' relinked;
+              is_last = is.is_last;
+              seen = λ x m.
+                  let stood = is.seen x m in
+                  let np : ¬ partner x ≡ entry = λ p. not-literal (subst (Contains trail.literals) (ap (watched_at watched) p ∙ watches-it) stood) in
+                  subst (Contains trail.literals) (sym (else' (partner x) np)) stood;
+              inside = inside';
+              growth = is.growth;
+              kept = kept';
+            }
 
-        pub step-apart : from ≢ to
-        step-apart e =
-            ⊎_elim
-            (λ (s : (to ≡ spare) × (now ≡ watched) × Stays clause other trail new fits after). from-spare (e ∙ s.0))
-            (λ (m : (found : Lit) × (to ≡ code_of found) × (now ≡ set watched entry found) × (new ≡ trail) × IsReplacement trail.literals clause other (Some found) × IsOneSigned trail.literals × (fits ≡ true) × (after ≡ true)).
-            false≢true
-            (sym m.4.2
-            ∙ has-from trail.literals (negation m.0) (subst (λ (l : Lit). Contains trail.literals (negation l)) (code-same literal m.0 (e ∙ m.1)) falsified)))
-            step
+            pub walk-moves : IsWalk heads' next' now new last (get_or next entry 0)
+            walk-moves =
+                subst (λ (w : List Lit). IsWalk heads' next' w new last (get_or next entry 0)) (sym step.0)
+                (subst (λ (t : Trailing). IsWalk heads' next' watched' t last (get_or next entry 0)) (sym step.1) moved)
 
-        pub step-walk : IsWalk (set (set heads from (get_or next entry 0)) to entry) (set next entry (get_or heads to 0)) now new after
-        step-walk =
-            ⊎_elim
-            (λ (s : (to ≡ spare) × (now ≡ watched) × Stays clause other trail new fits after).
-            subst (λ w. IsWalk (set (set heads from (get_or next entry 0)) to entry) (set next entry (get_or heads to 0)) w new after) (sym s.1)
-            (walk-stays to step-inside step-apart s.0 new after s.2))
-            (λ (m : (found : Lit) × (to ≡ code_of found) × (now ≡ set watched entry found) × (new ≡ trail) × IsReplacement trail.literals clause other (Some found) × IsOneSigned trail.literals × (fits ≡ true) × (after ≡ true)).
-            subst (λ w. IsWalk (set (set heads from (get_or next entry 0)) to entry) (set next entry (get_or heads to 0)) w new after) (sym m.2)
-            (subst (λ (t : Trailing). IsWalk (set (set heads from (get_or next entry 0)) to entry) (set next entry (get_or heads to 0)) (set watched entry m.0) t after) (sym m.3)
-            (subst (λ (f : Bool). IsWalk (set (set heads from (get_or next entry 0)) to entry) (set next entry (get_or heads to 0)) (set watched entry m.0) trail f) (sym m.7)
-            (walk-moves to step-inside step-apart m.0 m.1 (found-below m.0 m.4) m.4 m.5 m.6))))
-            step
-
-        pub step-smaller : chain_count (set next entry (get_or heads to 0)) (length (set next entry (get_or heads to 0))) (get_or (set (set heads from (get_or next entry 0)) to entry) from 0) < chain_count next (length next) (get_or heads from 0)
-        step-smaller = smaller to step-inside step-apart
-
-    -- ---- the end
-    module _ (ends : get_or heads from 0 ≡ nothing) where
-      empty : is.rows from ≡ []
-      empty = row-empty heads next is.rows is.place is.chains from from-in few ends
-
-      known-end : (x : ℕ) → x < length watched → IsKnown is.place watched trail fits x
-          → (swapped_place heads next is.rows is.place is.chains from spare from-in spare-in from-spare empty x ≡ code_of (watched_at watched x)) ⊎ IsApart variables pairs watched (swapped_place heads next is.rows is.place is.chains from spare from-in spare-in from-spare empty) x
-      known-end x i (inl a) =
-          let low = code-below variables (watched_at watched x) (All-contains (IsBelow variables) watched (watched_at watched x) is.below (Contains-get_or watched x (negative_of 0) i)) in
-          inl (swapped-other heads next is.rows is.place is.chains from spare from-in spare-in from-spare empty x (λ e. let two = sym a ∙ e in omega arith) ∙ a)
-      known-end x i (inr (inl b)) = inl (swapped-spare heads next is.rows is.place is.chains from spare from-in spare-in from-spare empty x b.0 ∙ ap code_of (sym b.1))
-      known-end x i (inr (inr b)) =
-          let here = b.here in
-          let there = b.there in
-          inr
-          (apart-same variables pairs watched watched is.place (swapped_place heads next is.rows is.place is.chains from spare from-in spare-in from-spare empty) x b (omega arith) refl refl
-          (swapped-other heads next is.rows is.place is.chains from spare from-in spare-in from-spare empty x (λ e. omega arith))
-          (swapped-other heads next is.rows is.place is.chains from spare from-in spare-in from-spare empty (partner x) (λ e. omega arith)))
-
-      pub walk-ends : AreWatches variables pairs watched (set (set heads from (get_or heads spare 0)) spare nothing) next
-      walk-ends = record {
-        rows = swapped heads next is.rows is.place is.chains from spare from-in spare-in from-spare empty;
-        place = swapped_place heads next is.rows is.place is.chains from spare from-in spare-in from-spare empty;
-        chains = rename-chains heads next is.rows is.place is.chains from spare from-in spare-in from-spare empty;
-        sized = is.sized;
-        slots = renamed-size heads next is.rows is.place is.chains from spare from-in spare-in from-spare empty ∙ is.slots;
-        below = is.below;
-        watching = λ x i. known-end x i (is.known x i);
-      }
-
-      pub walk-seen : ((l : Lit) → Contains (row_of pairs (code_of literal)) l → Contains trail0.literals l) → fits ≡ true → (x : ℕ) → x < length watched → watched_at watched x ≡ literal → Contains trail.literals (watched_at watched (partner x))
-      walk-seen brought t x i e =
+      -- ---- the end
+      pub walk-seen : entry ≡ nothing → ((l : Lit) → Contains (row_of pairs (code_of literal)) l → Contains trail0.literals l) → (x : ℕ) → x < length watched → watched_at watched x ≡ literal → Contains trail.literals (watched_at watched (partner x))
+      walk-seen ends brought x i e =
           ⊎_elim
-          (λ (a : is.place x ≡ code_of (watched_at watched x)).
-          let here : is.place x ≡ from = a ∙ ap code_of e in
-          absurd (none x (subst (λ r. Contains r x) empty (subst (λ s. Contains (is.rows s) x) here (is.chains.full x (let s = is.sized in omega arith))))))
-          (λ (r : IsAside is.place watched trail fits x ⊎ IsApart variables pairs watched is.place x).
-          ⊎_elim
-          (λ (b : IsAside is.place watched trail fits x). b.2 t)
-          (λ (b : IsApart variables pairs watched is.place x).
+          (λ (a : is.are.place x ≡ code_of (watched_at watched x)).
+          let here : is.are.place x ≡ from = a ∙ ap code_of e in
+          let in_row : Contains (is.are.rows from) x = subst (λ s. Contains (is.are.rows s) x) here (is.are.chains.full x (let s = is.are.sized in omega arith)) in
+          is.seen x (subst (λ r. Contains r x) (is.row ∙ ap (λ ls. is.before ++ ls) (nothing-left is.after is.behind) ∙ append-nil is.before) in_row))
+          (λ (b : IsApart variables pairs watched is.are.place x).
           growth-within clauses trail0 trail is.growth (watched_at watched (partner x)) (brought (watched_at watched (partner x)) (subst (λ (l : Lit). Contains (row_of pairs (code_of l)) (watched_at watched (partner x))) e b.listed)))
-          r)
-          (is.known x i)
+          (is.are.watching x i)
+        where
+          nothing-left : (row : List ℕ) → IsChain next entry row → row ≡ []
+          nothing-left [] c = refl
+          nothing-left (y ∷ ys) c = let low = c.1 in let here = c.0 in absurd (omega arith)

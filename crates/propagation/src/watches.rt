@@ -1,12 +1,12 @@
 //! Which literals of each clause are watched.
-ghost use Rattle.std.specs.Prelude.{◌≡◌, ◌≢◌, ◌+◌, ◌*◌, ◌/◌, ◌<◌, ◌≤◌, ◌^◌, ◌++◌, [], ◌∷◌, All, Any, Contains, IfOk, IsFalse, IsTrue, List, OnOk, slice_get, slice_index, slice_index_or, slice_set, length, Some, ℕ};
+ghost use Rattle.std.specs.Prelude.{◌≡◌, ◌≢◌, ◌⊎◌, ◌+◌, ◌*◌, ◌/◌, ◌<◌, ◌≤◌, ◌^◌, ◌++◌, [], ◌∷◌, All, Any, Contains, IfOk, IsFalse, IsTrue, List, OnOk, slice_get, slice_index, slice_index_or, slice_set, length, Some, ℕ};
 ghost use Rattle.clauses.specs.declared.literal.Lit.{Lit};
 ghost use Rattle.clauses.specs.Clause.{negation};
 ghost use Rattle.clauses.specs.Problem.{IsBelow};
 ghost use Rattle.propagation.specs.inside.Visits.{IsStep};
 ghost use Rattle.propagation.specs.inside.Pairing.{ArePaired, row_of};
 ghost use Rattle.propagation.specs.inside.Trails.{code_of};
-ghost use Rattle.propagation.specs.inside.Watching.{AreInside, AreKept, IsGrowth, IsRefuted, IsReleased, partner, watched_at};
+ghost use Rattle.propagation.specs.inside.Watching.{AreInside, AreKept, IsGrowth, IsRefuted, IsReleased, IsRelinked, nothing, partner, watched_at};
 
 use crate::pairs::{Pairs, bring_row};
 use crate::sorting::sort_chain;
@@ -184,24 +184,21 @@ impl Watches {
         ensures refuted { IsFalse result → Any (IsRefuted trail.new.literals) clauses.now }
     {
         let from = code_of(literal);
-        let spare = 2 * self.variables;
-        let mut fits = true;
-        while self.heads[from] != NOTHING {
-            let entry = self.heads[from];
-            let to = step(
-                clauses,
-                &mut self.watched,
-                entry,
-                literal,
-                trail,
-                spare,
-                &mut fits,
-            );
-            shift(&mut self.heads, &mut self.next, from, to);
+        let mut last = NOTHING;
+        let mut entry = self.heads[from];
+        while entry != NOTHING {
+            let behind = self.next[entry];
+            match step(clauses, &mut self.watched, entry, literal, trail) {
+                Visit::Stays => last = entry,
+                Visit::Moves(found) => {
+                    let to = code_of(found);
+                    relink(&mut self.heads, &mut self.next, from, last, entry, to);
+                }
+                Visit::Refuted => return false,
+            }
+            entry = behind;
         }
-        self.heads[from] = self.heads[spare];
-        self.heads[spare] = NOTHING;
-        fits
+        true
     }
 }
 
@@ -213,40 +210,53 @@ pub(crate) fn partner(entry: usize) -> usize
     entry + 1 - 2 * (entry % 2)
 }
 
-/// Looks at the clause of the entry, which watches the literal, unless one is refuted already, and answers to which slot the
-/// entry goes.
+/// Looks at the clause of the entry, which watches the literal, and watches the one to which it moves.
 fn step(
     clauses: &[Clause],
     watched: &mut [Lit],
     entry: usize,
     literal: Lit,
     trail: &mut Trail,
-    spare: usize,
-    fits: &mut bool,
-) -> usize
+) -> Visit
     requires entry { entry < length watched.old }
     requires sized { length watched.old ≡ 2 * length clauses.now }
     requires clauses { All (All (IsBelow trail.old.variables)) clauses.now }
     requires literal_in { Contains (slice_index_or clauses.now (entry / 2) []) literal }
     requires other_in { Contains (slice_index_or clauses.now (entry / 2) []) (watched_at watched.old (partner entry)) }
     requires is_false { Contains trail.old.literals (negation literal) }
-    ensures { IsStep spare entry (slice_index_or clauses.now (entry / 2) []) (watched_at watched.old (partner entry)) watched.old watched.new trail.old trail.new fits.old fits.new result }
+    ensures { IsStep entry (slice_index_or clauses.now (entry / 2) []) (watched_at watched.old (partner entry)) watched.old watched.new trail.old trail.new result }
 {
-    if !*fits {
-        return spare;
-    }
     let other = watched[partner(entry)];
-    match look_at(clauses[entry / 2].as_slice(), literal, other, trail) {
-        Visit::Stays => spare,
-        Visit::Moves(found) => {
-            watched[entry] = found;
-            code_of(found)
-        }
-        Visit::Refuted => {
-            *fits = false;
-            spare
-        }
+    let visit = look_at(clauses[entry / 2].as_slice(), literal, other, trail);
+    if let Visit::Moves(found) = visit {
+        watched[entry] = found;
     }
+    visit
+}
+
+/// Takes an entry out of the chain `from`, where it stands behind `last` or is the first, to the front of the chain `to`.
+fn relink(
+    heads: &mut [usize],
+    next: &mut [usize],
+    from: usize,
+    last: usize,
+    entry: usize,
+    to: usize,
+)
+    requires from { from < length heads.old }
+    requires to { to < length heads.old }
+    requires apart { from ≢ to }
+    requires entry { entry < length next.old }
+    requires last { (last ≡ nothing) ⊎ ((last < length next.old) × (last ≢ entry)) }
+    ensures { IsRelinked heads.old next.old from last entry to heads.new next.new }
+{
+    if last == NOTHING {
+        heads[from] = next[entry];
+    } else {
+        next[last] = next[entry];
+    }
+    next[entry] = heads[to];
+    heads[to] = entry;
 }
 
 /// Moves the first entry of one chain to the front of another.

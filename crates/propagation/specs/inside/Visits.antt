@@ -1,10 +1,10 @@
 -- A clause that watches a literal which is false now, and one other.
-use Rattle.std.specs.Prelude.{◌≡◌, ◌≢◌, ◌⊎◌, ◌++◌, ◌∷◌, [], ℕ, Bool, false, true, Contains, List, Option, Some, None, slice_set}
+use Rattle.std.specs.Prelude.{◌≡◌, ◌≢◌, ◌⊎◌, ◌++◌, ◌∷◌, [], ℕ, false, Contains, List, Option, Some, None, slice_set}
 use Rattle.clauses.specs.declared.literal.Lit.{Lit}
 use Rattle.clauses.specs.Clause.{has, negation}
 use Rattle.propagation.specs.declared.visits.Visit.{Visit}
 use Rattle.propagation.specs.declared.visits.Visit.TheVariants as visit
-use Rattle.propagation.specs.inside.Trails.{IsOneSigned, Trailing, code_of}
+use Rattle.propagation.specs.inside.Trails.{IsOneSigned, Trailing}
 use Rattle.propagation.specs.inside.Watching.{IsRefuted}
 
 -- another literal of the clause that isn't false, if there is one
@@ -20,16 +20,12 @@ IsVisit old new clause other visit.Stays =
 IsVisit old new clause other (visit.Moves found) = (new ≡ old) × IsReplacement old.literals clause other (Some found) × IsOneSigned old.literals
 IsVisit old new clause other visit.Refuted = (new ≡ old) × IsReplacement old.literals clause other None × Contains old.literals (negation other)
 
--- the watched literal stays, and its entry goes to the spare chain: the other one is true now, or some clause is refuted
-pub record Stays (clause : List Lit) (other : Lit) (old new : Trailing) (before after : Bool) : Type 0 where
-  pub grown :
-      (new ≡ old)
-      ⊎ ((new ≡ record old { literals = old.literals ++ other ∷ [] }) × ((literal : Lit) → Contains clause literal → literal ≢ other → Contains old.literals (negation literal)))
-  pub seen : after ≡ true → (before ≡ true) × Contains new.literals other
-  pub refuted : after ≡ false → (new ≡ old) × ((before ≡ false) ⊎ IsRefuted old.literals clause)
-
--- an entry is looked at, unless a clause is refuted already, and goes to the slot
-abbrev pub IsStep : ℕ → ℕ → List Lit → Lit → List Lit → List Lit → Trailing → Trailing → Bool → Bool → ℕ → Type 0
-IsStep spare entry clause other watched now old new before after slot =
-    ((slot ≡ spare) × (now ≡ watched) × Stays clause other old new before after)
-    ⊎ ((found : Lit) × (slot ≡ code_of found) × (now ≡ slice_set watched entry found) × (new ≡ old) × IsReplacement old.literals clause other (Some found) × IsOneSigned old.literals × (before ≡ true) × (after ≡ true))
+-- the other literal is true now, and the entry stays; or it watches another literal; or the clause is refuted
+abbrev pub IsStep : ℕ → List Lit → Lit → List Lit → List Lit → Trailing → Trailing → Visit → Type 0
+IsStep entry clause other watched now old new visit.Stays =
+    (now ≡ watched) × Contains new.literals other
+    × ((new ≡ old)
+    ⊎ ((new ≡ record old { literals = old.literals ++ other ∷ [] }) × ((literal : Lit) → Contains clause literal → literal ≢ other → Contains old.literals (negation literal))))
+IsStep entry clause other watched now old new (visit.Moves found) =
+    (now ≡ slice_set watched entry found) × (new ≡ old) × IsReplacement old.literals clause other (Some found) × IsOneSigned old.literals
+IsStep entry clause other watched now old new visit.Refuted = (now ≡ watched) × (new ≡ old) × IsRefuted old.literals clause

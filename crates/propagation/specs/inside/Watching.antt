@@ -1,7 +1,7 @@
 -- Two watched literals of each clause. The entries 2 i and 2 i + 1 are those of the clause with number i; a chain leads
 -- through the entries that watch a literal, but for those of clauses of two literals that are apart: there the other
 -- literal stands in the row of the first.
-use Rattle.std.specs.Prelude.{◌≡◌, ◌≢◌, ◌⊎◌, ◌+◌, ◌-◌, ◌*◌, ◌/◌, ◌%◌, ◌<◌, ◌++◌, ◌∷◌, [], ℕ, All, Contains, List, length, slice_index_or}
+use Rattle.std.specs.Prelude.{◌≡◌, ◌≢◌, ◌⊎◌, ◌+◌, ◌-◌, ◌*◌, ◌/◌, ◌%◌, ◌<◌, ◌++◌, ◌∷◌, [], ℕ, All, Contains, List, length, slice_index_or, slice_set}
 use Rattle.lists.specs.Distinct.{IsDistinct}
 use Rattle.clauses.specs.declared.literal.Lit.{Lit}
 use Rattle.clauses.specs.Clause.{negation, negative_of}
@@ -98,3 +98,9 @@ abbrev pub IsReleased : List ℕ → List Lit → List ℕ → Type 0
 IsReleased old watched new =
     (length new ≡ length old)
     × ((slot : ℕ) → slot < length old → (slice_index_or new slot 0 ≡ nothing) ⊎ ((slice_index_or new slot 0 ≡ slice_index_or old slot 0) × ((entry : ℕ) → entry < length watched → code_of (watched_at watched entry) ≢ slot)))
+
+-- an entry goes from behind the last one that stays, or from the front where there is none, to the front of another chain
+abbrev pub IsRelinked : List ℕ → List ℕ → ℕ → ℕ → ℕ → ℕ → List ℕ → List ℕ → Type 0
+IsRelinked heads next from last entry to heads_now next_now =
+    ((last ≡ nothing) × (heads_now ≡ slice_set (slice_set heads from (slice_index_or next entry 0)) to entry) × (next_now ≡ slice_set next entry (slice_index_or heads to 0)))
+    ⊎ ((last ≢ nothing) × (heads_now ≡ slice_set heads to entry) × (next_now ≡ slice_set (slice_set next last (slice_index_or next entry 0)) entry (slice_index_or heads to 0)))
