@@ -1,15 +1,13 @@
 -- What a kept propagator says of a derivation so far.
-use Rattle.std.proofs.Common.{◌≡◌, ◌∙◌, sym, ap, subst, ⊎_elim, ℕ, ◌+◌, ◌<◌, ◌≤◌, true, false, cond, List, [], ◌∷◌, ◌++◌, length, map, take, append-nil, append_assoc, length-append, arith}
+use Rattle.std.proofs.Common.{◌≡◌, ◌∙◌, sym, ap, subst, ⊎_elim, ℕ, ◌+◌, ◌<◌, ◌≤◌, true, false, List, [], ◌∷◌, ◌++◌, length, map, take, append_assoc, arith}
 use Rattle.std.specs.Prelude.{◌-◌, Contains, Some, filter, slice_get}
 use Rattle.std.specs.List.{range_with_len}
 use Rattle.std.proofs.lemmas.Bool.{cases_Bool, false≢true}
 use Rattle.std.proofs.lemmas.List.{length_push}
-use Rattle.std.proofs.lemmas.List.Elements.{Contains-append_left, Contains-append_right, Contains-append_cases, filter-append}
+use Rattle.std.proofs.lemmas.List.Elements.{Contains-append_left, Contains-append_right, Contains-append_cases}
 use Rattle.std.proofs.Math.Seq.{take-append_seam}
-use Rattle.lists.proofs.Ranges.{range-append}
 use Rattle.req_keys.specs.Key.{PositionSet, IsKey}
 use Rattle.req_keys.specs.Positions.{has}
-use Rattle.req_keys.proofs.PositionsLaws.{filter-range_push, positions_where-has, length-RiseWithin}
 use Rattle.clauses.specs.declared.literal.Lit.{Lit}
 use Rattle.clauses.specs.Clause.{unit_of}
 use Rattle.clauses.specs.Closure.{clash, follows}
@@ -17,6 +15,8 @@ use Rattle.clauses.specs.Problem.{ClauseProblem, clauses_with, roots_at}
 use Rattle.clauses.proofs.TrimmedLaws.{clash-more}
 use Rattle.propagation.specs.Propagation.{Propagation, all_of, propagated}
 use Rattle.propagation.specs.inside.Values.{IsPart}
+use Rattle.propagation.specs.inside.RootTrials.{members_to}
+use Rattle.propagation.proofs.RootSteps.{members-all, members-few, members-later, members-next}
 use Rattle.propagation.proofs.RootLaws.{AreAssumed, assumed-next, new-clash, next-clash, root_at, roots_for}
 use Rattle.propagation.proofs.ValueLaws.{clash-same, part-among}
 use Rattle.derivation_check.specs.inside.Checked.{IsChecked}
@@ -111,44 +111,6 @@ module _ (problem : ClauseProblem) (key : PositionSet) where
 -- ---- the roots, one by one
 
 module _ (problem : ClauseProblem) (key : PositionSet) (is_key : IsKey key) (sized : key.n ≡ length problem.roots) where
-  -- the members among the first so many positions
-  abbrev pub so_far : ℕ → List ℕ
-  so_far place = filter (has key.members) (range_with_len 1 place)
-
-  pub so_far-next : (place : ℕ) → has key.members (place + 1) ≡ true → so_far (place + 1) ≡ so_far place ++ (place + 1) ∷ []
-  so_far-next place h =
-      let turned : 1 + place ≡ place + 1 = omega arith in
-      filter-range_push (has key.members) 1 place
-      ∙ ap (λ k. so_far place ++ cond (has key.members k) (k ∷ []) []) turned
-      ∙ ap (λ b. so_far place ++ cond b ((place + 1) ∷ []) []) h
-
-  pub so_far-skip : (place : ℕ) → has key.members (place + 1) ≡ false → so_far (place + 1) ≡ so_far place
-  so_far-skip place h =
-      let turned : 1 + place ≡ place + 1 = omega arith in
-      filter-range_push (has key.members) 1 place
-      ∙ ap (λ k. so_far place ++ cond (has key.members k) (k ∷ []) []) turned
-      ∙ ap (λ b. so_far place ++ cond b ((place + 1) ∷ []) []) h
-      ∙ append-nil (so_far place)
-
-  pub so_far-all : so_far key.n ≡ key.members
-  so_far-all = positions_where-has key.n 0 key.members is_key.1
-
-  pub so_far-later : (place : ℕ) → place ≤ key.n → key.members ≡ so_far place ++ filter (has key.members) (range_with_len (1 + place) (key.n - place))
-  so_far-later place inside =
-      let whole : place + (key.n - place) ≡ key.n = omega arith in
-      sym so_far-all
-      ∙ ap so_far (sym whole)
-      ∙ ap (filter (has key.members)) (sym (range-append 1 place (key.n - place)))
-      ∙ filter-append (has key.members) (range_with_len 1 place) (range_with_len (1 + place) (key.n - place))
-
-  pub so_far-few : (place : ℕ) → place ≤ key.n → length (so_far place) ≤ 4096
-  so_far-few place inside =
-      let few = length-RiseWithin 0 key.n key.members is_key.1 in
-      let most = is_key.0 in
-      let parts = ap length (so_far-later place inside) in
-      let more = length-append (so_far place) (filter (has key.members) (range_with_len (1 + place) (key.n - place))) in
-      omega arith
-
   pub fresh-checked : (at : Propagation) → at.problem ≡ problem → at.assumed ≡ [] → at.learned ≡ [] → clash (propagated at) ≡ true → AreAssumedFor problem key 0 at
   fresh-checked at about assumed learned t = record {
     checked = record {
@@ -162,31 +124,31 @@ module _ (problem : ClauseProblem) (key : PositionSet) (is_key : IsKey key) (siz
     learned = learned;
   }
 
-  pub rooted-checked : (count : ℕ) (at : Propagation) → AreAssumed problem at (so_far key.n) → count ≡ length at.assumed → AreAssumedFor problem key count at
+  pub rooted-checked : (count : ℕ) (at : Propagation) → AreAssumed problem at (members_to key key.n) → count ≡ length at.assumed → AreAssumedFor problem key count at
   rooted-checked count at are counted = record {
     checked = record {
       about = ap (λ (p : Propagation). p.problem) are.is;
       sized = sized;
       counted = sym counted;
-      few = (let few = so_far-few key.n (omega arith) in let size = are.counted in omega arith);
-      all = (λ _. ap (λ (p : Propagation). p.assumed) are.is ∙ ap (roots_for problem) so_far-all);
+      few = (let few = members-few key is_key key.n (omega arith) in let size = are.counted in omega arith);
+      all = (λ _. ap (λ (p : Propagation). p.assumed) are.is ∙ ap (roots_for problem) (members-all key is_key));
       some = (λ t. absurd (false≢true (sym are.no_clash ∙ t)));
     };
     learned = ap (λ (p : Propagation). p.learned) are.is;
   }
 
-  module _ (old : Propagation) (place : ℕ) (inside : place < key.n) (are : AreAssumed problem old (so_far place)) where
+  module _ (old : Propagation) (place : ℕ) (inside : place < key.n) (are : AreAssumed problem old (members_to key place)) where
     pub assumed-few : length old.assumed ≤ 4096
-    assumed-few = let few = so_far-few place (omega arith) in let size = are.counted in omega arith
+    assumed-few = let few = members-few key is_key place (omega arith) in let size = are.counted in omega arith
 
     module _ (member : has key.members (place + 1) ≡ true) (root : Lit) (at_place : slice_get problem.roots place ≡ Some root) (new : Propagation) (grown : new ≡ record old { assumed = old.assumed ++ root ∷ [] }) where
       root_is : root_at problem (place + 1) ≡ Some root
       root_is = let back : (place + 1) - 1 ≡ place = omega arith in ap (slice_get problem.roots) back ∙ at_place
 
-      pub assumed-more : clash (propagated new) ≡ false → AreAssumed problem new (so_far (place + 1))
+      pub assumed-more : clash (propagated new) ≡ false → AreAssumed problem new (members_to key (place + 1))
       assumed-more no_clash =
-          subst (AreAssumed problem new) (sym (so_far-next place member))
-          (assumed-next problem old new (so_far place) (place + 1) root are root_is grown no_clash)
+          subst (AreAssumed problem new) (sym (members-next key place member))
+          (assumed-next problem old new (members_to key place) (place + 1) root are root_is grown no_clash)
 
       pub counted-more : length new.assumed ≡ length old.assumed + 1
       counted-more = ap (λ (p : Propagation). length p.assumed) grown ∙ length_push old.assumed root
@@ -198,16 +160,16 @@ module _ (problem : ClauseProblem) (key : PositionSet) (is_key : IsKey key) (siz
           sized = sized;
           counted = counted-more;
           few =
-              (let few = so_far-few (place + 1) (omega arith) in
-              let size = ap length (so_far-next place member) in
-              let pushed = length_push (so_far place) (place + 1) in
+              (let few = members-few key is_key (place + 1) (omega arith) in
+              let size = ap length (members-next key place member) in
+              let pushed = length_push (members_to key place) (place + 1) in
               let counted = are.counted in
               omega arith);
           all = (λ f. absurd (false≢true (sym f ∙ t)));
           some = (λ _.
               clash-append (clauses_with problem key) new.learned
-              (next-clash problem key old new (so_far place) (place + 1) (filter (has key.members) (range_with_len (1 + (place + 1)) (key.n - (place + 1)))) root are root_is grown t
-              (so_far-later (place + 1) (omega arith) ∙ ap (λ front. front ++ filter (has key.members) (range_with_len (1 + (place + 1)) (key.n - (place + 1)))) (so_far-next place member))));
+              (next-clash problem key old new (members_to key place) (place + 1) (filter (has key.members) (range_with_len (1 + (place + 1)) (key.n - (place + 1)))) root are root_is grown t
+              (members-later key is_key (place + 1) (omega arith) ∙ ap (λ front. front ++ filter (has key.members) (range_with_len (1 + (place + 1)) (key.n - (place + 1)))) (members-next key place member))));
         };
         learned = ap (λ (p : Propagation). p.learned) grown ∙ ap (λ (p : Propagation). p.learned) are.is;
       }

@@ -161,6 +161,9 @@ impl Watches {
         ensures seen { IsTrue result → (entry : ℕ) → entry < length self.new.watched → watched_at self.new.watched entry ≡ literal → Contains trail.new.literals (watched_at self.new.watched (partner entry)) }
         ensures refuted { IsFalse result → Any (IsRefuted trail.new.literals) clauses.now }
     {
+        if self.watched.is_empty() {
+            return true;
+        }
         if !bring_row(self.pairs.row(code_of(literal)), trail) {
             return false;
         }

@@ -6,7 +6,9 @@ use Rattle.clauses.specs.Problem.{ClauseProblem}
 use Rattle.propagation.specs.Propagation.{Propagation, propagated}
 use Rattle.propagation.proofs.RootLaws.{AreAssumed, root-below, clash-from_not, no_clash-from_not}
 use Rattle.derivation_check.specs.inside.Assumed.{AreAssumedFor}
-use Rattle.derivation_check.proofs.CheckerLaws.{so_far, so_far-skip, fresh-checked, rooted-checked, assumed-few, assumed-more, counted-more, clashed-checked}
+use Rattle.propagation.specs.inside.RootTrials.{members_to}
+use Rattle.propagation.proofs.RootSteps.{members-skip}
+use Rattle.derivation_check.proofs.CheckerLaws.{fresh-checked, rooted-checked, assumed-few, assumed-more, counted-more, clashed-checked}
 use Rattle.derivation_check.proofs.checker.assume_roots.Goals as goal
 use Rattle.derivation_check.proofs.checker.assume_roots.Goals.{then-contains+else-not-assume, else-contains}
 
@@ -58,15 +60,15 @@ loop-place-preserved c =
                 ∙ ap (λ n. n + 1) c.loop-place.invariant.0
                 ∙ sym (counted-more c.args.problem.now c.args.key.now c.n.ensures.key c.requires.key c.loop-place.propagator c.loop-place.place inside c.loop-place.invariant.1 member w.get.result.now at_place w.assume.new.self w.assume.ensures.assumed)
                 ∙ ap (λ (p : Propagation). length p.assumed) (sym w.propagator-is),
-            subst (λ (p : Propagation). AreAssumed c.args.problem.now p (so_far c.args.problem.now c.args.key.now c.n.ensures.key c.requires.key (c.loop-place.place + 1))) (sym w.propagator-is)
+            subst (λ (p : Propagation). AreAssumed c.args.problem.now p (members_to c.args.key.now (c.loop-place.place + 1))) (sym w.propagator-is)
                 (assumed-more c.args.problem.now c.args.key.now c.n.ensures.key c.requires.key c.loop-place.propagator c.loop-place.place inside c.loop-place.invariant.1 member w.get.result.now at_place w.assume.new.self w.assume.ensures.assumed
                 (no_clash-from_not (clash (propagated w.assume.new.self)) w.assume.result w.assume.ensures.no_clash w.if-not-assume.false)),
           )
       | else-contains w ↦
           let none : has c.args.key.now.members (c.loop-place.place + 1) ≡ false = sym c.contains.ensures ∙ w.if-contains.false in (
             w.count-is ∙ c.loop-place.invariant.0 ∙ ap (λ (p : Propagation). length p.assumed) (sym w.propagator-is),
-            subst (λ (p : Propagation). AreAssumed c.args.problem.now p (so_far c.args.problem.now c.args.key.now c.n.ensures.key c.requires.key (c.loop-place.place + 1))) (sym w.propagator-is)
-                (subst (AreAssumed c.args.problem.now c.loop-place.propagator) (sym (so_far-skip c.args.problem.now c.args.key.now c.n.ensures.key c.requires.key c.loop-place.place none)) c.loop-place.invariant.1),
+            subst (λ (p : Propagation). AreAssumed c.args.problem.now p (members_to c.args.key.now (c.loop-place.place + 1))) (sym w.propagator-is)
+                (subst (AreAssumed c.args.problem.now c.loop-place.propagator) (sym (members-skip c.args.key.now c.loop-place.place none)) c.loop-place.invariant.1),
           )
     ]
 
@@ -74,5 +76,5 @@ pub returns : goal.returns
 returns c =
     let whole : c.loop-place.place ≡ c.args.key.now.n = omega (arith, c.n-place-end.ensures.n, c.requires.key, c.loop-place-test.false, c.loop-place.auto.place-end) in
     rooted-checked c.args.problem.now c.args.key.now c.n.ensures.key c.requires.key c.loop-place.count c.loop-place.propagator
-    (subst (λ n. AreAssumed c.args.problem.now c.loop-place.propagator (so_far c.args.problem.now c.args.key.now c.n.ensures.key c.requires.key n)) whole c.loop-place.invariant.1)
+    (subst (λ n. AreAssumed c.args.problem.now c.loop-place.propagator (members_to c.args.key.now n)) whole c.loop-place.invariant.1)
     c.loop-place.invariant.0
