@@ -7,7 +7,7 @@ use Rattle.clauses.specs.declared.literal.Lit.{Lit}
 use Rattle.clauses.specs.Clause.{unit_of}
 use Rattle.clauses.specs.Closure.{closure, clash}
 use Rattle.clauses.specs.Problem.{ClauseProblem, IsProblem, clauses_with, roots_at}
-use Rattle.clauses.specs.Search.{Sat, Unsat, Limit, GoesOn, Ends, IsReached, allowance_of, attempt_of, first_of, start, turn, turn_at_clash, turn_at_rest, turn_count, search_of, under}
+use Rattle.clauses.specs.Search.{SearchAnswer, Sat, Unsat, Limit, GoesOn, Ends, IsReached, allowance_of, attempt_of, first_of, start, turn, turn_at_clash, turn_at_rest, turn_count, search_of, under}
 use Rattle.clauses.proofs.AttemptLaws.{answer-limit, attempt-most, first-answer, search-from, search-of}
 use Rattle.clauses.proofs.BoundLaws.{reached-few, never-limit}
 use Rattle.clauses.proofs.CauseLaws.{ends-answer, reached-members, reached-below, reached-allowed}
@@ -21,7 +21,8 @@ use Rattle.solver.specs.declared.answer.Answer.{Answer}
 use Rattle.solver.specs.declared.answer.Answer.TheVariants as answer
 use Rattle.solver.specs.Answers.{meaning, EndsWithLearned, IsRight}
 use Rattle.solver.specs.declared.search.Ending.{Ending}
-use Rattle.solver.specs.inside.Searching.{Searching, standing, turn_of, IsShown, IsTurn, ended, HasBegun}
+use Rattle.solver.specs.declared.search.Ending.TheVariants as ending
+use Rattle.solver.specs.inside.Searching.{Searching, all_under, standing, turn_of, IsAtEnd, IsShown, IsTurn, ended, HasBegun}
 use Rattle.solver.specs.Stopping.{Rises}
 
 -- what stands in an attempt: the search comes to it
@@ -93,8 +94,8 @@ module _ (problem : ClauseProblem) (key : PositionSet) (number : ℕ) where
         ends-answer (first_of number) clauses problem.variables allowance is.reached.0 (standing at) (ended at end) is.reached.1 (sym due ∙ t.0)
         ∙ ap (λ (s : Searching). Some (ended s end)) (sym t.1)
 
-    pub shown-at_end : (now : Searching) (end : Ending) → IsTurn at now (Some end) → IsShown now
-    shown-at_end now end t = subst IsShown (sym t.1) is.shown
+    pub going-at_end : (now : Searching) (end : Ending) → IsTurn at now (Some end) → IsAtEnd now end
+    going-at_end now end t = (subst IsShown (sym t.1) is.shown, λ sat. ap (λ (s : Searching). clash (all_under s)) t.1 ∙ t.2 sat)
 
   -- the roots of the key clash with the clauses
   pub refuted-at_start : clash clauses ≡ true → attempt_of problem key number ≡ Some (Unsat ([] ∷ []))
@@ -109,6 +110,20 @@ module _ (problem : ClauseProblem) (key : PositionSet) (number : ℕ) where
             | true ↦ turn_at_clash (first_of number) clauses allowance start
             | false ↦ turn_at_rest problem.variables (closure (under (first_of number) clauses start)) start
           ]) (ap clash all ∙ c)
+
+  -- what stands then ends in Unsat
+  module _ (at : Searching) (begun : HasBegun problem key (first_of number) allowance at false) (end : Ending) (unsat : end ≡ ending.Unsat) where
+    pub refuted-ends : attempt_of problem key number ≡ Some (ended at end)
+    refuted-ends =
+        refuted-at_start begun.0
+        ∙ ap (λ (lines : List (List Lit)). Some (Unsat (lines ++ [] ∷ []))) (sym begun.1)
+        ∙ ap (λ (e : Ending). Some (ended at e)) (sym unsat)
+
+    pub refuted-at_end : IsAtEnd at end
+    refuted-at_end = (
+      ([], begun.3 ∙ ap (λ (tried : List ℕ). tried ++ []) (sym begun.2), inl refl),
+      λ sat. let other : ending.Sat ≡ ending.Unsat = sym sat ∙ unsat in absurd (cc),
+    )
 
 -- a count that rises later has risen
 pub rises-later : (a b c : ℕ) → a ≤ b → Rises b c → Rises a c
@@ -158,13 +173,13 @@ right-answer problem key lawful answer.Limit e = λ attempt inside.
 -- ---- the attempts
 
 -- an answer that isn't Limit is that of the search, where the attempts before were Limit
-pub answer-found : (problem : ClauseProblem) (key : PositionSet) (number : ℕ) (given : Answer) → number < problem.rungs → ((earlier : ℕ) → earlier < number → attempt_of problem key earlier ≡ Some Limit)
-    → attempt_of problem key number ≡ Some (meaning given) → (¬ meaning given ≡ Limit) → search_of problem key ≡ Some (meaning given)
+pub answer-found : (problem : ClauseProblem) (key : PositionSet) (number : ℕ) (given : SearchAnswer) → number < problem.rungs → ((earlier : ℕ) → earlier < number → attempt_of problem key earlier ≡ Some Limit)
+    → attempt_of problem key number ≡ Some given → (¬ given ≡ Limit) → search_of problem key ≡ Some given
 answer-found problem key number given inside before e other =
     let count : number + (problem.rungs - number) ≡ problem.rungs = omega arith in
-    search-from problem key number (problem.rungs - number) count before ∙ first-answer problem key (problem.rungs - number) number (meaning given) e other
+    search-from problem key number (problem.rungs - number) count before ∙ first-answer problem key (problem.rungs - number) number given e other
 
 -- and that of the last attempt is
-pub answer-last : (problem : ClauseProblem) (key : PositionSet) (given : Answer) → ((earlier : ℕ) → earlier < problem.rungs → attempt_of problem key earlier ≡ Some Limit)
-    → attempt_of problem key problem.rungs ≡ Some (meaning given) → search_of problem key ≡ Some (meaning given)
+pub answer-last : (problem : ClauseProblem) (key : PositionSet) (given : SearchAnswer) → ((earlier : ℕ) → earlier < problem.rungs → attempt_of problem key earlier ≡ Some Limit)
+    → attempt_of problem key problem.rungs ≡ Some given → search_of problem key ≡ Some given
 answer-last problem key given before e = let count : problem.rungs + 0 ≡ problem.rungs = omega arith in search-from problem key problem.rungs 0 count before ∙ e

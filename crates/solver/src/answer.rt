@@ -1,6 +1,6 @@
 //! What a search answers.
-ghost use Rattle.std.specs.Prelude.{◌≡◌, ◌↔◌, IsTrue};
-ghost use Rattle.clauses.specs.Search.{Limit, verdict_of};
+ghost use Rattle.std.specs.Prelude.{◌≡◌};
+ghost use Rattle.clauses.specs.Search.{verdict_of};
 ghost use Rattle.solver.specs.Answers.{meaning};
 
 use clauses::Derivation;
@@ -32,13 +32,6 @@ impl Answer {
             Answer::Unsat(_) => Verdict::Unsat,
             Answer::Limit => Verdict::Limit,
         }
-    }
-
-    /// Whether the search may learn no more.
-    pub(crate) fn is_limit(&self) -> bool
-        ensures { IsTrue result ↔ (meaning self.now ≡ Limit) }
-    {
-        matches!(self, Answer::Limit)
     }
 }
 

@@ -1,19 +1,19 @@
 //! The turns of a search.
-ghost use Rattle.std.specs.Prelude.{◌≡◌, ◌≢◌, ◌==◌, ◌<◌, ◌≤◌, [], ◌∷◌, ◌++◌, All, Contains, IfOk, IfSome, IsFalse, IsTrue, List, ℕ, OnErr, OnOk, length, map, not, reverse, Some, None};
+ghost use Rattle.std.specs.Prelude.{◌≡◌, ◌≢◌, ◌==◌, ◌↔◌, ◌<◌, ◌≤◌, [], ◌∷◌, ◌++◌, All, Contains, IfOk, IfSome, IsFalse, IsTrue, List, ℕ, OnErr, OnOk, length, map, not, reverse, Some, None};
 ghost use Rattle.lists.specs.Distinct.{IsDistinct};
 ghost use Rattle.pref_sets.specs.Preferred.{IsWithin};
 ghost use Rattle.clauses.specs.Closure.{clash, closure};
 ghost use Rattle.clauses.specs.Problem.{IsProblem};
-ghost use Rattle.clauses.specs.Search.{cut_after, open_variables, some_without, values_of};
+ghost use Rattle.clauses.specs.Search.{Limit, cut_after, open_variables, some_without, values_of, verdict_of};
 ghost use Rattle.solver.specs.Answers.{meaning};
-ghost use Rattle.solver.specs.inside.Searching.{AreSettled, AreShown, HasBegun, IsShown, IsTurn, all_under, ended};
+ghost use Rattle.solver.specs.inside.Searching.{AreSettled, AreShown, HasBegun, IsShown, IsTurn, Searching, all_under, ended};
 ghost use Rattle.solver.specs.inside.Trials.{with_tried};
 
 use crate::answer::{Answer, Assignment};
 use crate::trial::Trial;
 use clauses::{Clause, Derivation, Lit, Problem};
 use pref_sets::trim;
-use req_keys::Key;
+use req_keys::{Key, Verdict};
 use std::alloc::{AllocError, Global};
 use std::marker::Model;
 
@@ -23,6 +23,26 @@ pub(crate) enum Ending {
     Sat,
     Unsat,
     Limit,
+}
+
+impl Ending {
+    /// What the ending says of the requirements.
+    pub fn verdict(self) -> Verdict
+        ensures { (at : Searching) → result ≡ verdict_of (ended at self) }
+    {
+        match self {
+            Ending::Sat => Verdict::Sat,
+            Ending::Unsat => Verdict::Unsat,
+            Ending::Limit => Verdict::Limit,
+        }
+    }
+
+    /// Whether the search may learn no more.
+    pub fn is_limit(self) -> bool
+        ensures { (at : Searching) → IsTrue result ↔ (ended at self ≡ Limit) }
+    {
+        matches!(self, Ending::Limit)
+    }
 }
 
 /// A search between two turns.

@@ -1,16 +1,16 @@
 //! The search.
-ghost use Rattle.std.specs.Prelude.{◌≡◌, ◌≤◌, [], ◌∷◌, Some, IfOk, IsTrue, IsErrOf, length};
+ghost use Rattle.std.specs.Prelude.{◌≡◌, ◌≤◌, Some, IfOk, IsErrOf, OnOk, length};
 ghost use Rattle.clauses.specs.Problem.{IsProblem};
-ghost use Rattle.clauses.specs.Search.{Unsat, allowance_of, attempt_of, first_of, search_of, verdict_of, verdict_on};
+ghost use Rattle.clauses.specs.Search.{allowance_of, attempt_of, first_of, search_of, verdict_of, verdict_on};
 ghost use Rattle.solver.specs.Answers.{IsRight, meaning};
 ghost use Rattle.solver.specs.Stopping.{Rises};
-ghost use Rattle.solver.specs.inside.Searching.{IsShown, IsTurn};
+ghost use Rattle.solver.specs.inside.Searching.{IsAtEnd, IsShown, IsTurn, ended};
 
 use crate::answer::{Answer, SolveError};
 use crate::search::{Ending, Search};
 use crate::stop::Stop;
-use clauses::{Clause, Clauses, Problem};
-use req_keys::Key;
+use clauses::Problem;
+use req_keys::{Key, Verdict};
 use std::alloc::{AllocError, Global};
 use std::marker::Model;
 
@@ -53,7 +53,21 @@ impl<'a> Searcher<'a> {
         ensures stays { S.stays stop.old stop.new }
         ensures problem { self.new ≡ self.old }
     {
-        search_for(&mut self.search, key, stop)
+        let ending = search_for(&mut self.search, key, stop)?;
+        Ok(self.search.answer(ending)?)
+    }
+
+    /// The verdict alone of that search. It makes no values and no derivation.
+    pub fn verdict<S: Stop>(&mut self, key: &Key, stop: &mut S) -> Result<Verdict, SolveError>
+        requires { key.now.n ≡ length self.old.roots }
+        ensures verdict { IfOk result (λ verdict. verdict_on self.old key.now ≡ Some verdict) }
+        ensures stopped { IsErrOf result SolveError.Stopped → Rises (S.raised stop.old) (S.raised stop.new) }
+        ensures never_falls { S.raised stop.old ≤ S.raised stop.new }
+        ensures stays { S.stays stop.old stop.new }
+        ensures problem { self.new ≡ self.old }
+    {
+        let ending = search_for(&mut self.search, key, stop)?;
+        Ok(ending.verdict())
     }
 }
 
@@ -78,14 +92,15 @@ pub fn solve<S: Stop>(
     searcher.answer(key, stop)
 }
 
-/// The answer of the first attempt that isn't Limit, or of the last.
+/// How the first attempt that isn't Limit ends, or the last.
 fn search_for<S: Stop>(
     search: &mut Search<'_>,
     key: &Key,
     stop: &mut S,
-) -> Result<Answer, SolveError>
+) -> Result<Ending, SolveError>
     requires { key.now.n ≡ length search.old.trial.problem.roots }
-    ensures answer { IfOk result (λ answer. search_of search.old.trial.problem key.now ≡ Some (meaning answer)) }
+    ensures ended { IfOk result (λ ending. search_of search.old.trial.problem key.now ≡ Some (ended search.new ending)) }
+    ensures end { IfOk result (IsAtEnd search.new) }
     ensures stopped { IsErrOf result SolveError.Stopped → Rises (S.raised stop.old) (S.raised stop.new) }
     ensures never_falls { S.raised stop.old ≤ S.raised stop.new }
     ensures stays { S.stays stop.old stop.new }
@@ -95,9 +110,9 @@ fn search_for<S: Stop>(
     let problem = search.problem();
     let rungs = problem.rungs;
     for number in 0..rungs {
-        let answer = attempt(search, key, number, stop)?;
-        if !answer.is_limit() {
-            return Ok(answer);
+        let ending = attempt(search, key, number, stop)?;
+        if !ending.is_limit() {
+            return Ok(ending);
         }
     }
     attempt(search, key, rungs, stop)
@@ -124,10 +139,11 @@ fn attempt<S: Stop>(
     key: &Key,
     number: u8,
     stop: &mut S,
-) -> Result<Answer, SolveError>
+) -> Result<Ending, SolveError>
     requires key { key.now.n ≡ length search.old.trial.problem.roots }
     requires few { number ≤ search.old.trial.problem.rungs }
-    ensures answer { IfOk result (λ answer. attempt_of search.old.trial.problem key.now number ≡ Some (meaning answer)) }
+    ensures ended { IfOk result (λ ending. attempt_of search.old.trial.problem key.now number ≡ Some (ended search.new ending)) }
+    ensures end { IfOk result (IsAtEnd search.new) }
     ensures stopped { IsErrOf result SolveError.Stopped → Rises (S.raised stop.old) (S.raised stop.new) }
     ensures never_falls { S.raised stop.old ≤ S.raised stop.new }
     ensures stays { S.stays stop.old stop.new }
@@ -138,18 +154,18 @@ fn attempt<S: Stop>(
     let allowance = allowance_of(search.problem(), number);
     let fits = search.begin(key, first, allowance)?;
     if !fits {
-        return refuted(alloc, stop);
+        return refuted(stop);
     }
     loop {
         if let Some(ending) = turn(alloc, search, stop)? {
-            return Ok(search.answer(ending)?);
+            return Ok(ending);
         }
     }
 }
 
 /// The roots of the key clash with the clauses.
-fn refuted<S: Stop>(alloc: Global, stop: &mut S) -> Result<Answer, SolveError>
-    ensures answer { IfOk result (λ answer. meaning answer ≡ Unsat ([] ∷ [])) }
+fn refuted<S: Stop>(stop: &mut S) -> Result<Ending, SolveError>
+    ensures ending { IfOk result (λ ending. ending ≡ Ending.Unsat) }
     ensures stopped { IsErrOf result SolveError.Stopped → Rises (S.raised stop.old) (S.raised stop.new) }
     ensures never_falls { S.raised stop.old ≤ S.raised stop.new }
     ensures stays { S.stays stop.old stop.new }
@@ -157,9 +173,7 @@ fn refuted<S: Stop>(alloc: Global, stop: &mut S) -> Result<Answer, SolveError>
     if stop.asked() {
         return Err(SolveError::Stopped);
     }
-    let mut derivation = Clauses::new(alloc);
-    derivation.push(Clause::new(alloc))?;
-    Ok(Answer::Unsat(derivation))
+    Ok(Ending::Unsat)
 }
 
 /// One turn. At a clash `stop` is asked first.

@@ -53,9 +53,13 @@ IsTurn before now None =
     × (now.trial.first ≡ before.trial.first) × (now.allowance ≡ before.allowance) × IsShown now
 IsTurn before now (Some end) = (turn_of before ≡ Ends (ended before end)) × (now ≡ before) × ((end ≡ ending.Sat) → IsFalse (clash (all_under before)))
 
--- at the start, unless the roots of the key clash with the clauses, nothing is learned or decided
+-- where a search has ended so, what stands is shown, and with Sat nothing clashes
+abbrev pub IsAtEnd : Searching → Ending → Type 0
+IsAtEnd at end = IsShown at × ((end ≡ ending.Sat) → IsFalse (clash (all_under at)))
+
+-- at the start nothing is learned or decided; the answer is false where the roots of the key clash with the clauses
 abbrev pub HasBegun : ClauseProblem → PositionSet → Bool → ℕ → Searching → Bool → Type 0
-HasBegun problem key first allowance at false = IsTrue (clash (clauses_with problem key))
+HasBegun problem key first allowance at false = IsTrue (clash (clauses_with problem key)) × (at.trial.learned ≡ []) × (at.trial.tried ≡ []) × (at.decisions ≡ [])
 HasBegun problem key first allowance at true =
     at ≡ record { trial = record { problem = problem; learned = []; fixed = roots_at problem key; tried = []; first = first }; decisions = []; allowance = allowance }
 

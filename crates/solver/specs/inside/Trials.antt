@@ -32,9 +32,9 @@ Clashes at set = IsTrue (clash (with_tried at (variables_in at.problem set)))
 abbrev pub SameButTried : Trying → Trying → Type 0
 SameButTried a b = (b.problem ≡ a.problem) × (b.learned ≡ a.learned) × (b.fixed ≡ a.fixed) × (b.first ≡ a.first)
 
--- at the start the roots of the key stay, unless they clash with the clauses
+-- at the start nothing is learned or tried; the roots of the key stay, unless they clash with the clauses
 abbrev pub HasStarted : ClauseProblem → PositionSet → Bool → Trying → Bool → Type 0
-HasStarted problem key first at false = IsTrue (clash (clauses_with problem key))
+HasStarted problem key first at false = IsTrue (clash (clauses_with problem key)) × (at.learned ≡ []) × (at.tried ≡ [])
 HasStarted problem key first at true = at ≡ record { problem = problem; learned = []; fixed = roots_at problem key; tried = []; first = first }
 
 -- the variables of the literals that are assumed behind those that stay
