@@ -119,6 +119,5 @@ fn verdict_of<S: Stop>(
     ensures stays { S.stays stop.old stop.new }
     ensures problem { searcher.new ≡ searcher.old }
 {
-    let answer = searcher.answer(key, stop)?;
-    Ok(answer.verdict())
+    searcher.verdict(key, stop)
 }
