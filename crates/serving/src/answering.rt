@@ -142,8 +142,8 @@ fn search(searcher: &mut Searcher<'_>, key: &Key) -> Result<Verdict, AllocError>
     ensures verdict { IfOk result (λ verdict. verdict ≡ verdicts_of searcher.old key.now) }
     ensures searcher { searcher.new ≡ searcher.old }
 {
-    match searcher.answer(key, &mut NoStop) {
-        Ok(answer) => Ok(answer.verdict()),
+    match searcher.verdict(key, &mut NoStop) {
+        Ok(verdict) => Ok(verdict),
         // Nobody stops the search, so this is want of memory.
         Err(SolveError::Memory | SolveError::Stopped) => Err(AllocError),
     }
