@@ -141,8 +141,8 @@ fn verdict_on(searcher: &mut Searcher<'_>, key: &Key) -> Result<Verdict, AllocEr
     ensures problem { searcher.new ≡ searcher.old }
     ensures verdict { IfOk result (λ verdict. verdict ≡ verdicts_of searcher.old key.now) }
 {
-    match searcher.answer(key, &mut NoStop) {
-        Ok(answer) => Ok(answer.verdict()),
+    match searcher.verdict(key, &mut NoStop) {
+        Ok(verdict) => Ok(verdict),
         // Nobody stops the search, so this is want of memory.
         Err(SolveError::Memory | SolveError::Stopped) => Err(AllocError),
     }
