@@ -1,5 +1,5 @@
 -- A job under way, from one turn to the next.
-use Rattle.std.proofs.Common.{◌≡◌, refl, inr, ℕ, ◌-◌, ◌<◌, length, [], ◌∷◌, ◌++◌, List, Some, None, sym, ap, subst, ◌∙◌}
+use Rattle.std.proofs.Common.{◌≡◌, refl, inr, ℕ, ◌-◌, ◌<◌, length, [], ◌∷◌, ◌++◌, Some, None, sym, ap, subst, ◌∙◌}
 use Rattle.std.specs.Prelude.{IfOk, Option, Result, Ok, Err}
 use Rattle.clauses.specs.Problem.{ClauseProblem}
 use Rattle.req_keys.specs.Key.{PositionSet}

@@ -1,4 +1,4 @@
-use Rattle.std.proofs.Common.{◌≡◌, true, false, refl, Some, ap, sym, ◌∙◌, rules}
+use Rattle.std.proofs.Common.{◌≡◌, true, false, Some, ap, ◌∙◌, rules}
 use Rattle.script.specs.Running.{key_in, want_after}
 use Rattle.diag_workers.proofs.AloneLaws.{asked_key, asked_none}
 use Rattle.diag_workers.proofs.CourseLaws.{checked-between, checked-fewer, checked-plan, unchecked}

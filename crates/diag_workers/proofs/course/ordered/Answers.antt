@@ -1,4 +1,4 @@
-use Rattle.std.proofs.Common.{◌≡◌, ◌∙◌, sym, ap, subst, refl, List}
+use Rattle.std.proofs.Common.{◌≡◌, ◌∙◌, sym, subst, refl, List}
 use Rattle.std.specs.Prelude.{All, Contains, IfOk, IsSome, OnOk, Result}
 use Rattle.std.proofs.lemmas.List.Elements.{All-weaker}
 use Rattle.lists.specs.Distinct.{IsDistinct}

@@ -1,5 +1,3 @@
-use Rattle.std.proofs.Common.{[]}
-use Rattle.std.specs.Prelude.{IfOk}
 use Rattle.diag_workers.proofs.CourseLaws.{begins-first, begun-between, if_ok}
 use Rattle.diag_workers.proofs.running.begin.Goals as goal
 

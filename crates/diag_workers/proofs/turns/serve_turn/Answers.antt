@@ -2,7 +2,7 @@ use Rattle.std.proofs.Common.{◌≡◌, ap, sym, subst, ◌∙◌, length}
 use Rattle.clauses.specs.Problem.{ClauseProblem}
 use Rattle.script.specs.Running.{Running}
 use Rattle.serving.specs.Rounds.{IsHeld}
-use Rattle.diag_workers.specs.inside.Course.{IsBetween, IsNext, IsOrdered, posted_so_far}
+use Rattle.diag_workers.specs.inside.Course.{IsNext, IsOrdered, posted_so_far}
 use Rattle.diag_workers.specs.inside.Ready.{IsReady}
 use Rattle.diag_workers.proofs.CourseLaws.{served-between}
 use Rattle.diag_workers.proofs.RoundLaws.{ready-on}
