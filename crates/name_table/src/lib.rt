@@ -4,6 +4,7 @@
 //! that it is the list of what was put in, in order, and that `get` finds the number beside a name.
 #![tactic(auto)]
 
+mod key;
 mod names;
 mod seed;
 #[cfg(test)]

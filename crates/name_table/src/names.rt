@@ -2,6 +2,7 @@
 ghost use Rattle.std.specs.Prelude.{◌≡◌, ◌++◌, [], ◌∷◌, length, None, OnOk, OnErr};
 ghost use Rattle.name_table.specs.Numbers.{number_of};
 
+use crate::key::Key;
 use crate::seed::Seed;
 use indexmap::IndexMap;
 use std::alloc::{AllocError, Global};
@@ -10,7 +11,7 @@ use std::marker::Model;
 /// Names with their numbers. Contracts see the list of them.
 #[derive(Drop)]
 pub struct Names<'a> {
-    numbers: IndexMap<&'a [u8], u32, Seed>,
+    numbers: IndexMap<Key<'a>, u32, Seed>,
 }
 
 impl<'a> Model for Names<'a> {
@@ -18,7 +19,7 @@ impl<'a> Model for Names<'a> {
 
     ghost Value = { List (List ℕ × ℕ) };
 
-    ghost view = { λ names. map (λ e. (e.0.now, e.1)) names.numbers.entries };
+    ghost view = { λ names. map (λ e. (e.0.bytes.now, e.1)) names.numbers.entries };
 }
 
 impl<'a> Names<'a> {
@@ -42,7 +43,7 @@ impl<'a> Names<'a> {
     pub fn get(&self, name: &[u8]) -> Option<u32>
         ensures { result ≡ number_of self.now name.now }
     {
-        self.numbers.get(name).copied()
+        self.numbers.get(&Key { bytes: name }).copied()
     }
 
     /// One name more, with its number.
@@ -51,7 +52,7 @@ impl<'a> Names<'a> {
         ensures ok { OnOk result (self.new ≡ self.old ++ (name.now, number) ∷ []) }
         ensures err { OnErr result (self.new ≡ self.old) }
     {
-        self.numbers.insert(name, number)?;
+        self.numbers.insert(Key { bytes: name }, number)?;
         Ok(())
     }
 }

@@ -25,8 +25,9 @@ impl Seed {
         }
     }
 
-    /// After these bytes too.
+    /// After these bytes too, and up to the end of a word of eight bytes, where a name is hashed faster.
     pub fn feed(&mut self, bytes: &[u8]) {
         self.initial.write(bytes);
+        self.initial.write(&[0; 8][bytes.len() % 8..]);
     }
 }

@@ -9,5 +9,5 @@ returns c =
     let test = pointwise nat_eq c.args.name.now in
     c.copied.ensures
     ∙ c.get.ensures.value
-    ∙ lookup-shown (λ k. k.now) test c.self.inside.numbers.entries
+    ∙ lookup-shown (λ k. k.bytes.now) test c.self.inside.numbers.entries
     ∙ ap (lookup test) c.self.view_is

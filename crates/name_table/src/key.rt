@@ -1,0 +1,37 @@
+//! Names as the keys of a map.
+ghost use Rattle.std.specs.Prelude.{[], ◌∷◌, nat_eq};
+ghost use Rattle.std.specs.Cmp.Lexicographic.{pointwise, bytes_decides};
+ghost use Rattle.std.specs.Cmp.Rules.{comparing};
+ghost use Rattle.std.proofs.Common.{rules, ap};
+
+use std::hash::{Hash, Hasher};
+
+/// A name as a key. Its bytes are hashed in one piece, where a slice would be hashed byte by byte.
+#[derive(Clone, Copy)]
+pub(crate) struct Key<'a> {
+    pub(crate) bytes: &'a [u8],
+}
+
+impl<'a> PartialEq for Key<'a> {
+    ghost eq = { λ a b. pointwise nat_eq a.bytes.now b.bytes.now };
+
+    ghost laws = { Prim.search (comparing, rules) };
+
+    fn eq(&self, other: &Key<'a>) -> bool {
+        self.bytes == other.bytes
+    }
+}
+
+impl<'a> Eq for Key<'a> {
+    ghost laws = { Prim.search (comparing, rules) };
+}
+
+impl<'a> Hash for Key<'a> {
+    ghost hash_input = { λ key. key.bytes.now ∷ [] };
+
+    ghost respects_eq = { λ a b same. ap (λ bytes. bytes ∷ []) ((bytes_decides a.bytes.now b.bytes.now).0 same) };
+
+    fn hash<H: Hasher>(&self, state: &mut H) {
+        state.write(self.bytes);
+    }
+}
