@@ -43,7 +43,7 @@ impl<'a> Names<'a> {
     pub fn get(&self, name: &[u8]) -> Option<u32>
         ensures { result ≡ number_of self.now name.now }
     {
-        self.numbers.get(&Key { bytes: name }).copied()
+        self.numbers.get(&Key::new(name)).copied()
     }
 
     /// One name more, with its number.
@@ -52,7 +52,7 @@ impl<'a> Names<'a> {
         ensures ok { OnOk result (self.new ≡ self.old ++ (name.now, number) ∷ []) }
         ensures err { OnErr result (self.new ≡ self.old) }
     {
-        self.numbers.insert(Key { bytes: name }, number)?;
+        self.numbers.insert(Key::new(name), number)?;
         Ok(())
     }
 }

@@ -9,5 +9,6 @@ returns c =
     let test = pointwise nat_eq c.args.name.now in
     c.copied.ensures
     ∙ c.get.ensures.value
+    ∙ ap (λ n. lookup (λ k. pointwise nat_eq n k.bytes.now) c.self.inside.numbers.entries) c.new.ensures
     ∙ lookup-shown (λ k. k.bytes.now) test c.self.inside.numbers.entries
     ∙ ap (lookup test) c.self.view_is
