@@ -17,3 +17,4 @@ pub mod Roles
 pub mod Truth
 pub mod WellFormed
 pub mod inside
+pub mod formers
