@@ -1,7 +1,6 @@
 -- Refusals go through, one formula, item or line after the other.
-use Rattle.std.proofs.Common.{◌≡◌, ℕ, zero, suc, ◌+◌, ◌<◌, ◌==◌, true, false, List, [], ◌∷◌, ◌++◌, length, get_or, drop, map, All, Option, Some, None, Ok, Err, refl, sym, ap, subst, ◌∙◌, arith, append_assoc, append-nil, inl, inr}
+use Rattle.std.proofs.Common.{◌≡◌, ℕ, zero, suc, ◌+◌, ◌<◌, List, [], ◌∷◌, ◌++◌, length, get_or, drop, map, All, Option, Some, None, Ok, Err, refl, sym, ap, subst, ◌∙◌, arith, append_assoc, append-nil, inl, inr}
 use Rattle.std.proofs.lemmas.Bool.{cases_Bool}
-use Rattle.std.proofs.lemmas.Bool.Decides.{nat_tests}
 use Rattle.std.proofs.lemmas.List.{at_drop_more}
 use Rattle.std.proofs.lemmas.List.Elements.{All-nil, All-cons, All-head, All-tail, All-map, All-weaker}
 use Rattle.std.specs.List.{slice_get}
@@ -12,7 +11,6 @@ use Rattle.feature_tree.specs.Numbered.{numbered, number_at as number_in}
 use Rattle.feature_tree.proofs.NumberedLaws.{numbered-names}
 use Rattle.name_table.specs.Numbers.{number_of}
 use Rattle.uvl_lex.specs.Text.{token_text}
-use Rattle.uvl_reader.specs.Attributes.{items_of}
 use Rattle.uvl_reader.specs.Shapes.{is_name}
 use Rattle.uvl_reader.specs.inside.Good.{placed_names, IsStated}
 use Rattle.uvl_reader.specs.inside.Standing.{number_at}
