@@ -1,5 +1,5 @@
 //! The search.
-ghost use Rattle.std.specs.Prelude.{◌≡◌, ◌≤◌, Some, IfOk, IsErrOf, OnOk, length};
+ghost use Rattle.std.specs.Prelude.{◌≡◌, ◌≤◌, Some, IfOk, IsErrOf, length};
 ghost use Rattle.clauses.specs.Problem.{IsProblem};
 ghost use Rattle.clauses.specs.Search.{allowance_of, attempt_of, first_of, search_of, verdict_of, verdict_on};
 ghost use Rattle.solver.specs.Answers.{IsRight, meaning};
