@@ -63,10 +63,41 @@ fn tell_either<A: Asker>(
         OnOk result (All (λ a. IsSome (asks_of (seen A.wants A.told a))) next.new.items) }
     ensures found { OnOk result (found.new.keys ≡ fold with_key found.old.keys (keys_asked (after_either (seen A.wants A.told asker.now)))) }
 {
+    if kept {
+        keep_either(asker, found, next)?;
+        return Ok(());
+    }
+    find_either(asker, found)?;
+    Ok(())
+}
+
+/// Appends the asker after Unsat and after Sat, where it asks then. What they ask is found.
+fn keep_either<A: Asker>(
+    asker: &A,
+    found: &mut IndexSet<Key>,
+    next: &mut Vec<A>,
+) -> Result<(), AllocError>
+    requires { IsSome (A.wants asker.now (A.told asker.now)) }
+    ensures next { OnOk result (map (seen A.wants A.told) next.new.items
+        ≡ map (seen A.wants A.told) next.old.items ++ after_either (seen A.wants A.told asker.now)) }
+    ensures asks { All (λ a. IsSome (asks_of (seen A.wants A.told a))) next.old.items →
+        OnOk result (All (λ a. IsSome (asks_of (seen A.wants A.told a))) next.new.items) }
+    ensures found { OnOk result (found.new.keys ≡ fold with_key found.old.keys (keys_asked (after_either (seen A.wants A.told asker.now)))) }
+{
     let unsat = told_further(asker, Verdict::Unsat, found)?;
-    keep(next, unsat, kept)?;
+    keep(next, unsat)?;
     let sat = told_further(asker, Verdict::Sat, found)?;
-    keep(next, sat, kept)?;
+    keep(next, sat)?;
+    Ok(())
+}
+
+/// What the asker asks after Unsat and after Sat, where it asks then, is found. No asker is made.
+fn find_either<A: Asker>(asker: &A, found: &mut IndexSet<Key>) -> Result<(), AllocError>
+    requires { IsSome (A.wants asker.now (A.told asker.now)) }
+    ensures { OnOk result (found.new.keys ≡ fold with_key found.old.keys (keys_asked (after_either (seen A.wants A.told asker.now)))) }
+{
+    find_further(asker, Verdict::Unsat, found)?;
+    find_further(asker, Verdict::Sat, found)?;
     Ok(())
 }
 
@@ -83,8 +114,7 @@ fn told_further<A: Asker>(
     ensures found { OnOk result (found.new.keys ≡ fold with_key found.old.keys
         (keys_asked (option_to_list (after_verdict verdict (seen A.wants A.told asker.now))))) }
 {
-    let mut next = asker.copy()?;
-    next.tell(verdict)?;
+    let next = asker.after(verdict)?;
     let Want::Ask(key) = next.want() else {
         return Ok(None);
     };
@@ -93,15 +123,36 @@ fn told_further<A: Asker>(
     Ok(Some(next))
 }
 
-/// Appends what there is, where it is kept.
-fn keep<T: Drop>(list: &mut Vec<T>, item: Option<T>, kept: bool) -> Result<(), AllocError>
-    ensures { OnOk result (list.new.items ≡ list.old.items ++ (if kept then option_to_list item else [])) }
+/// What the asker asks after one verdict more, if it asks then, is found.
+fn find_further<A: Asker>(
+    asker: &A,
+    verdict: Verdict,
+    found: &mut IndexSet<Key>,
+) -> Result<(), AllocError>
+    requires { IsSome (A.wants asker.now (A.told asker.now)) }
+    ensures { OnOk result (found.new.keys ≡ fold with_key found.old.keys
+        (keys_asked (option_to_list (after_verdict verdict (seen A.wants A.told asker.now))))) }
 {
-    let Some(item) = item else { return Ok(()) };
-    if kept {
-        list.push(item)?;
+    match asker.asks_after(verdict)? {
+        None => Ok(()),
+        Some(key) => {
+            found.insert(key)?;
+            Ok(())
+        }
     }
-    Ok(())
+}
+
+/// Appends what there is.
+fn keep<T: Drop>(list: &mut Vec<T>, item: Option<T>) -> Result<(), AllocError>
+    ensures { OnOk result (list.new.items ≡ list.old.items ++ option_to_list item) }
+{
+    match item {
+        None => Ok(()),
+        Some(item) => {
+            list.push(item)?;
+            Ok(())
+        }
+    }
 }
 
 /// Equal keys.

@@ -6,7 +6,7 @@ ghost use Rattle.script.specs.Job.{Told, verdict_in};
 
 use crate::job_asks_new_keys;
 use crate::run::Run;
-use req_keys::{Verdict, Want};
+use req_keys::{Key, Verdict, Want};
 use std::alloc::AllocError;
 
 /// A state that names the key whose verdict it wants, and goes on by the verdict. What it wants is a definition of how it
@@ -36,6 +36,20 @@ pub trait Asker: Drop + Sized {
         ensures n { OnOk result (n self.new ≡ n self.old) }
         ensures err { OnErr result (self.new ≡ self.old) };
 
+    /// The state after one verdict more, which goes on by itself: what a copy is that is told the verdict.
+    fn after(&self, verdict: Verdict) -> Result<Self, AllocError>
+        requires { IsSome (wants self.now (told self.now)) }
+        ensures told { (key : PositionSet) → wants self.now (told self.now) ≡ Some key →
+            IfOk result (λ next. told next ≡ told self.now ++ (key, verdict) ∷ []) }
+        ensures wants { IfOk result (λ next. wants next ≡ wants self.now) }
+        ensures n { IfOk result (λ next. n next ≡ n self.now) };
+
+    /// The key that it would ask after one verdict more.
+    fn asks_after(&self, verdict: Verdict) -> Result<Option<Key>, AllocError>
+        requires { IsSome (wants self.now (told self.now)) }
+        ensures { (key : PositionSet) → wants self.now (told self.now) ≡ Some key →
+            IfOk result (λ asks. asks ≡ wants self.now (told self.now ++ (key, verdict) ∷ [])) };
+
     /// An equal state, which goes on by itself.
     fn copy(&self) -> Result<Self, AllocError>
         ensures { IfOk result (λ copy. copy ≡ self.now) };
@@ -59,6 +73,16 @@ impl Asker for Run {
     fn tell(&mut self, verdict: Verdict) -> Result<(), AllocError> {
         Run::tell(self, verdict)?;
         Ok(())
+    }
+
+    fn after(&self, verdict: Verdict) -> Result<Run, AllocError> {
+        let next = Run::after(self, verdict)?;
+        Ok(next)
+    }
+
+    fn asks_after(&self, verdict: Verdict) -> Result<Option<Key>, AllocError> {
+        let asks = Run::asks_after(self, verdict)?;
+        Ok(asks)
     }
 
     fn copy(&self) -> Result<Run, AllocError> {

@@ -4,7 +4,7 @@ ghost use Rattle.req_keys.specs.Key.{PositionSet};
 ghost use Rattle.req_keys.specs.Wanting.{wanted_key};
 ghost use Rattle.script.specs.declared.job.Outcome.{Outcome};
 ghost use Rattle.script.specs.declared.job.Part.{Part};
-ghost use Rattle.script.specs.Job.{asks, ends, verdict_in};
+ghost use Rattle.script.specs.Job.{asks, ends, verdict_in, want};
 ghost use Rattle.script.specs.Running.{Running, IsAsking, IsEnded, key_in, want_after};
 ghost use Rattle.script.specs.inside.Going.{IsTable, told_beside};
 ghost use Rattle.script.specs.inside.Stages.{IsAt, IsPlan, Stands};
@@ -105,17 +105,7 @@ impl Run {
     pub fn want(&self) -> Want<'_>
         ensures { wanted_key result ≡ key_in (want_after self.now) }
     {
-        match &self.stage {
-            Stage::All(key) | Stage::Background(key) => Want::Ask(key),
-            Stage::Kept(state) => state.want(),
-            Stage::Conflict { kept: _, state } => state.want(),
-            Stage::Listing {
-                kept: _,
-                conflict: _,
-                state,
-            } => state.want(),
-            Stage::Done(_) => Want::Done,
-        }
+        self.stage.want()
     }
 
     /// A copy of the asked key.
@@ -155,6 +145,35 @@ impl Run {
         self.used.tell(key, verdict)?;
         self.stage = stage;
         Ok(())
+    }
+
+    /// The run with the pair of the asked key and its verdict more. It shares the told pairs, and makes its state beside this one.
+    pub fn after(&self, verdict: Verdict) -> Result<Run, AllocError>
+        requires { IsAsking (want_after self.now) }
+        ensures { (part : Part) (key : PositionSet) → want_after self.now ≡ asks part key →
+            IfOk result (λ run. run ≡ record { plan = self.now.plan; told = self.now.told ++ (key, verdict) ∷ [] }) }
+    {
+        let key = self.asked()?;
+        let stage = self.next(&key, verdict)?;
+        let mut used = self.used.copy()?;
+        used.tell(key, verdict)?;
+        Ok(Run {
+            plan: self.plan,
+            used,
+            stage,
+        })
+    }
+
+    /// The key that would be asked with the verdict of the asked key. No run is made for it.
+    pub fn asks_after(&self, verdict: Verdict) -> Result<Option<Key>, AllocError>
+        requires { IsAsking (want_after self.now) }
+        ensures { (part : Part) (key : PositionSet) → want_after self.now ≡ asks part key →
+            IfOk result (λ asks. asks ≡ key_in (want self.now.plan (self.now.told ++ (key, verdict) ∷ []))) }
+    {
+        let key = self.asked()?;
+        let stage = self.next(&key, verdict)?;
+        let asks = stage.asked()?;
+        Ok(asks)
     }
 
     /// An equal run, which goes on by itself. It shares the told pairs.

@@ -2,7 +2,10 @@
 ghost use Rattle.std.specs.Prelude.{◌≡◌, ◌≤◌, ◌<◌, ℕ, List, None, Some, IfOk, IfSome, map, length};
 ghost use Rattle.req_keys.specs.Key.{empty_key, full_key, PositionSet};
 ghost use Rattle.req_keys.specs.declared.verdict.Verdict.TheVariants as verdict;
-ghost use Rattle.script.specs.Job.{asks, ends, verdict_in, want};
+ghost use Rattle.req_keys.specs.Wanting.{wanted_key};
+ghost use Rattle.script.specs.declared.job.JobPlan.{JobPlan as Plan};
+ghost use Rattle.script.specs.Job.{Told, asks, ends, verdict_in, want};
+ghost use Rattle.script.specs.Running.{key_in};
 ghost use Rattle.script.specs.inside.Going.{IsTable, told_beside};
 ghost use Rattle.script.specs.inside.Stages.{HasConflict, HasKept, IsAt, IsBeyond, IsExplaining, IsKeeping, IsListing};
 
@@ -12,7 +15,7 @@ use crate::job::{JobPlan, Outcome, Part, Parts, copy_keys};
 use fast_diag::FastDiag;
 use hs_tree::HsTree;
 use quick_xplain::QuickXplain;
-use req_keys::{Key, Verdict};
+use req_keys::{Key, Verdict, Want};
 use std::alloc::{AllocError, Global};
 
 /// The part that asks, with what was found before it, or how the job has ended.
@@ -36,6 +39,36 @@ pub(crate) enum Stage {
 }
 
 impl Stage {
+    /// The key whose verdict is wanted.
+    pub fn want(&self) -> Want<'_>
+        ensures { (plan : Plan) (told : Told) → IsAt plan told self.now → wanted_key result ≡ key_in (want plan told) }
+    {
+        match self {
+            Stage::All(key) | Stage::Background(key) => Want::Ask(key),
+            Stage::Kept(state) => state.want(),
+            Stage::Conflict { kept: _, state } => state.want(),
+            Stage::Listing {
+                kept: _,
+                conflict: _,
+                state,
+            } => state.want(),
+            Stage::Done(_) => Want::Done,
+        }
+    }
+
+    /// A copy of the key whose verdict is wanted.
+    pub fn asked(&self) -> Result<Option<Key>, AllocError>
+        ensures { (plan : Plan) (told : Told) → IsAt plan told self.now → IfOk result (λ key. key ≡ key_in (want plan told)) }
+    {
+        match self.want() {
+            Want::Ask(key) => {
+                let key = key.copy()?;
+                Ok(Some(key))
+            }
+            Want::Done => Ok(None),
+        }
+    }
+
     /// The same stage.
     pub fn copy(&self, alloc: Global) -> Result<Stage, AllocError>
         ensures { IfOk result (λ stage. stage ≡ self.now) }
