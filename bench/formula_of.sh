@@ -10,7 +10,7 @@ for name in lists uvl_lex feature_tree; do
   cp -r "$root/crates/$name" "$work/crates/$name"
   rm -rf "$work/crates/$name/out"
 done
-printf 'lists:\nuvl_lex: lists unicode_ident thiserror\nfeature_tree: lists uvl_lex thiserror\nformula_bench: feature_tree uvl_lex anyhow\n' > "$work/crates.txt"
+printf 'lists:\nuvl_lex: lists unicode_ident thiserror\nfeature_tree: lists sqlite_items uvl_lex thiserror\nformula_bench: feature_tree uvl_lex anyhow\n' > "$work/crates.txt"
 cat > "$work/crates/formula_bench/src/main.rt" <<'PROGRAM'
 //! Times the reader of formulas on generated texts.
 #![tactic(auto)]

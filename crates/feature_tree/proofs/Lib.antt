@@ -11,6 +11,5 @@ pub mod NumberedLaws
 pub mod Products
 pub mod ReadFormulaLaws
 pub mod ReadNameLaws
-pub mod Renumbering
 pub mod Scanning
 pub mod Trees

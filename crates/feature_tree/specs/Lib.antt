@@ -17,4 +17,3 @@ pub mod Roles
 pub mod Truth
 pub mod WellFormed
 pub mod inside
-pub mod formers

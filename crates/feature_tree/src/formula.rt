@@ -4,8 +4,8 @@ ghost use Rattle.std.specs.List.{list_all, list_any};
 ghost use Rattle.feature_tree.specs.Truth.{truth};
 ghost use Rattle.feature_tree.specs.Names.{NamesBelow};
 
-use crate::boxed::Boxed;
 use lists::Row;
+use sqlite_items::Boxed;
 
 /// A condition on a set of features: a cross-tree constraint, or a requirement.
 #[derive(Debug, Drop)]

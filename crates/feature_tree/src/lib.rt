@@ -9,7 +9,6 @@
 //! grammar names them.
 #![tactic(auto)]
 
-mod boxed;
 mod feature;
 mod formula;
 mod group;
@@ -20,7 +19,6 @@ mod reader;
 mod text;
 mod tree;
 
-pub use boxed::Boxed;
 pub use feature::{Feature, Features};
 pub use formula::{Formula, Formulas, all_hold};
 pub use group::{Group, GroupKind, Groups};
@@ -33,6 +31,7 @@ pub use lists::{Numbers, Row};
 pub use model::Model;
 pub use numbered::numbered_keeps_truth;
 pub use reader::{FormulaError, Level, Parsed, Role, formula_of};
+pub use sqlite_items::Boxed;
 pub use text::Text;
 pub use tree::Tree;
 

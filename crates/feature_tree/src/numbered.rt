@@ -3,9 +3,9 @@ ghost use Rattle.std.specs.Prelude.{◌≡◌, length, map, All, IfOk};
 ghost use Rattle.feature_tree.specs.Names.{NamesBelow};
 ghost use Rattle.feature_tree.specs.Numbered.{numbered, NumberedNames, NumberedTruth};
 
-use crate::boxed::Boxed;
 use crate::formula::{Formula, Formulas};
 use lists::Row;
+use sqlite_items::Boxed;
 use std::alloc::{AllocError, Global};
 
 impl Formula {
@@ -31,28 +31,6 @@ impl Formula {
             }
         }
     }
-
-    /// Replaces each name by the number at its place in `of`. Takes no memory.
-    #[cycle(renumber)]
-    pub fn renumber(&mut self, of: &[u32])
-        requires { NamesBelow (length of.now) self.old }
-        ensures { self.new ≡ numbered of.now self.old }
-    {
-        match self {
-            Formula::Name(name) => *name = of[*name as usize],
-            Formula::Not(part) => part.get_mut().renumber(of),
-            Formula::All(parts) => renumber_all(parts, of),
-            Formula::Any(parts) => renumber_all(parts, of),
-            Formula::Implies(left, right) => {
-                left.get_mut().renumber(of);
-                right.get_mut().renumber(of);
-            }
-            Formula::Same(left, right) => {
-                left.get_mut().renumber(of);
-                right.get_mut().renumber(of);
-            }
-        }
-    }
 }
 
 /// One part with other numbers.
@@ -75,17 +53,6 @@ fn all_numbered(alloc: Global, formulas: &[Formula], of: &[u32]) -> Result<Formu
         row.push(formula.numbered(alloc, of)?)?;
     }
     Ok(row)
-}
-
-/// Replaces the names of each formula.
-#[cycle(renumber)]
-fn renumber_all(formulas: &mut Formulas, of: &[u32])
-    requires { All (NamesBelow (length of.now)) formulas.old }
-    ensures { formulas.new ≡ map (numbered of.now) formulas.old }
-{
-    for i in 0..formulas.len() {
-        formulas.get_mut(i).renumber(of);
-    }
 }
 
 /// The names of a formula with other numbers, and its truth: that of the formula, with each name taken as true where its

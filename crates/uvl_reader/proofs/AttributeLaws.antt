@@ -1,7 +1,7 @@
 -- Items that are cut one after the other, and brackets that are passed one after the other.
 use Rattle.std.proofs.Common.{◌≡◌, ℕ, ◌+◌, ◌-◌, ◌<◌, ◌≤◌, ◌==◌, true, false, List, [], ◌∷◌, ◌++◌, length, get_or, take, drop, map, Option, Some, None, refl, sym, ap, ◌∙◌, arith, append_assoc, append-nil, length-drop}
 use Rattle.std.proofs.lemmas.Bool.Decides.{nat_tests}
-use Rattle.std.proofs.lemmas.List.{take_more, drop_all, at_drop_more, get_or-drop, map-append}
+use Rattle.std.proofs.lemmas.List.{take_more, at_drop_more, get_or-drop, map-append}
 use Rattle.std.specs.Option.{option_map}
 use Rattle.uvl_lex.specs.declared.token.Token.{Token}
 use Rattle.uvl_reader.specs.Attributes.{Items, is_comma, with_token, cut_at_commas}
@@ -71,15 +71,6 @@ items_token tokens from i depth next d f l n e =
     let rest = cut_at_commas (open_after depth token.kind) (drop (i + 1) tokens) in
     let cut : cut_at_commas depth (drop i tokens) ≡ with_token false token rest = at_drop_more (cut_at_commas depth) tokens i d l ∙ ap (λ b. with_token b token rest) n in
     ap (behind (part tokens from i)) cut ∙ behind_token (part tokens from i) token rest ∙ rw (part_more tokens from i d f l, e) refl
-
--- behind the last token there is one item, which ends there
-pub items_end : (tokens : List Token) (from i depth : ℕ) → length tokens ≤ i → i ≤ length tokens → behind (part tokens from i) (cut_at_commas depth (drop i tokens)) ≡ part tokens from (length tokens) ∷ []
-items_end tokens from i depth l h =
-    let end : i ≡ length tokens = omega arith in
-    let item : List Token = part tokens from (length tokens) in
-    ap (λ k. behind (part tokens from k) (cut_at_commas depth (drop k tokens))) end
-    ∙ ap (λ (left : List Token). behind item (cut_at_commas depth left)) (drop_all (length tokens) tokens (omega arith))
-    ∙ ap (λ (one : List Token). one ∷ []) (append-nil item)
 
 -- one item more in the list of what a vector holds
 pub one_more : {X : Type 0} (show : X → List Token) (before after : List X) (one : X) (item : List Token) (rest : List (List Token)) → after ≡ before ++ one ∷ [] → show one ≡ item → map show before ++ item ∷ rest ≡ map show after ++ rest

@@ -1,6 +1,7 @@
 -- Refusals go through, one formula, item or line after the other.
-use Rattle.std.proofs.Common.{◌≡◌, ℕ, zero, suc, ◌+◌, ◌<◌, List, [], ◌∷◌, ◌++◌, length, get_or, drop, map, All, Option, Some, None, Ok, Err, refl, sym, ap, subst, ◌∙◌, arith, append_assoc, append-nil, inl, inr}
+use Rattle.std.proofs.Common.{◌≡◌, ℕ, zero, suc, ◌+◌, ◌<◌, ◌==◌, true, false, List, [], ◌∷◌, ◌++◌, length, get_or, drop, map, All, Option, Some, None, Ok, Err, refl, sym, ap, subst, ◌∙◌, arith, append_assoc, append-nil, inl, inr}
 use Rattle.std.proofs.lemmas.Bool.{cases_Bool}
+use Rattle.std.proofs.lemmas.Bool.Decides.{nat_tests}
 use Rattle.std.proofs.lemmas.List.{at_drop_more}
 use Rattle.std.proofs.lemmas.List.Elements.{All-nil, All-cons, All-head, All-tail, All-map, All-weaker}
 use Rattle.std.specs.List.{slice_get}
@@ -11,6 +12,7 @@ use Rattle.feature_tree.specs.Numbered.{numbered, number_at as number_in}
 use Rattle.feature_tree.proofs.NumberedLaws.{numbered-names}
 use Rattle.name_table.specs.Numbers.{number_of}
 use Rattle.uvl_lex.specs.Text.{token_text}
+use Rattle.uvl_reader.specs.Attributes.{items_of}
 use Rattle.uvl_reader.specs.Shapes.{is_name}
 use Rattle.uvl_reader.specs.inside.Good.{placed_names, IsStated}
 use Rattle.uvl_reader.specs.inside.Standing.{number_at}
@@ -55,15 +57,18 @@ module _ (line : ℕ) where
     unfolding with_items
     items_refused before item others e r = refused_then (λ now. with_items bytes line now others) e (with_listed line before (formulas_of_item bytes item)) r
 
-    -- the last item decides
-    and_no_more : (read : OrRefused (List StatedFormula)) → and_then (λ now. with_items bytes line now []) read ≡ read
+    pub items_end : (before : List StatedFormula) → with_items bytes line before [] ≡ Ok before
     unfolding with_items
-    and_no_more (Ok after) = refl
-    and_no_more (Err refused) = refl
+    items_end before = refl
 
-    pub items_last : (before : List StatedFormula) (item : List Token) → with_items bytes line before (item ∷ []) ≡ with_listed line before (formulas_of_item bytes item)
-    unfolding with_items
-    items_last before item = and_no_more (with_listed line before (formulas_of_item bytes item))
+    -- no attributes are one empty item
+    pub no_attributes : (before : List StatedFormula) → with_items bytes line before ([] ∷ []) ≡ Ok before
+    unfolding with_items with_all
+    no_attributes before = refl
+
+  pub nothing_read : (bytes : List ℕ) (before : List StatedFormula) (tokens : List Token) → (length tokens == 0) ≡ true → with_items bytes line before (items_of tokens) ≡ Ok before
+  nothing_read bytes before [] e = no_attributes bytes before
+  nothing_read bytes before (token ∷ tokens) e = let n : (suc (length tokens) == 0) ≡ false = grind (arith, nat_tests) in absurd (cc)
 
   -- at a place of a list of what shows as lists of tokens
   module _ {X : Type 0} (show : X → List Token) (xs : List X) (i : ℕ) (d : X) (l : i < length xs) (before : List StatedFormula) (whole : OrRefused (List StatedFormula)) where
@@ -72,6 +77,12 @@ module _ (line : ℕ) where
 
     pub all_refused_at : (e : ModelError) → whole ≡ with_all line before (map show (drop i xs)) → IsRefused e (with_tokens line before (show (get_or xs i d))) → IsRefused e whole
     all_refused_at e w r = rw (w ∙ at_drop_more (λ (left : List X). with_all line before (map show left)) xs i d l) (all_refused before (show (get_or xs i d)) (map show (drop (i + 1) xs)) e r)
+
+    pub items_next_at : (bytes : List ℕ) (after : List StatedFormula) → whole ≡ with_items bytes line before (map show (drop i xs)) → with_listed line before (formulas_of_item bytes (show (get_or xs i d))) ≡ Ok after → whole ≡ with_items bytes line after (map show (drop (i + 1) xs))
+    items_next_at bytes after w e = w ∙ at_drop_more (λ (left : List X). with_items bytes line before (map show left)) xs i d l ∙ items_next bytes before after (show (get_or xs i d)) (map show (drop (i + 1) xs)) e
+
+    pub items_refused_at : (bytes : List ℕ) (e : ModelError) → whole ≡ with_items bytes line before (map show (drop i xs)) → IsRefused e (with_listed line before (formulas_of_item bytes (show (get_or xs i d)))) → IsRefused e whole
+    items_refused_at bytes e w r = rw (w ∙ at_drop_more (λ (left : List X). with_items bytes line before (map show left)) xs i d l) (items_refused bytes before (show (get_or xs i d)) (map show (drop (i + 1) xs)) e r)
 
 module _ (bytes : List ℕ) where
   pub lines_next : (before after : Standing) (line : Line) (lines : List Line) → after_line bytes before line ≡ Ok after → after_lines bytes before (line ∷ lines) ≡ after_lines bytes after lines

@@ -9,7 +9,10 @@ use std::alloc::{AllocError, Global};
 use uvl_lex::{Keyword, Mark, Token, TokenKind, text_of};
 
 /// The items between the commas that stand outside all brackets.
-fn items_of<'a>(alloc: Global, tokens: &'a [Token]) -> Result<Vec<&'a [Token]>, AllocError>
+pub(crate) fn items_of<'a>(
+    alloc: Global,
+    tokens: &'a [Token],
+) -> Result<Vec<&'a [Token]>, AllocError>
     requires { length tokens.now < 2 ^ 31 }
     ensures { IfOk result (λ items. map (λ item. item.now) items.items ≡ items_of tokens.now) }
 {
@@ -28,7 +31,7 @@ fn items_of<'a>(alloc: Global, tokens: &'a [Token]) -> Result<Vec<&'a [Token]>, 
 }
 
 /// Whether the token is a comma outside all brackets.
-pub(crate) fn is_comma(depth: u32, kind: TokenKind) -> bool
+fn is_comma(depth: u32, kind: TokenKind) -> bool
     ensures { result ≡ is_comma depth kind }
 {
     depth == 0 && matches!(kind, TokenKind::Mark(Mark::Comma))

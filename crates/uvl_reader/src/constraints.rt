@@ -13,7 +13,8 @@ use name_table::Names;
 use std::alloc::{AllocError, Global};
 use uvl_lex::{Token, text_of};
 
-/// Each formula with the features that it names, or the first refusal.
+/// Each formula with the features that it names, or the first refusal. A formula is let go as soon as it has its features,
+/// so that the next one can have its memory.
 pub(crate) fn constraints_of(
     alloc: Global,
     names: &Names<'_>,
@@ -27,32 +28,28 @@ pub(crate) fn constraints_of(
     let mut constraints = Row::new(alloc);
     let mut of = Numbers::new(alloc);
     for one in stated {
-        constraints.push(numbered(names, bytes, one, &mut of)?)?;
+        constraints.push(numbered(alloc, names, bytes, &one, &mut of)?)?;
+        drop(one);
     }
     Ok(constraints)
 }
 
-/// The formula with the features that it names, in the memory that it has. `of` is a buffer for their numbers.
+/// One formula with the features that it names. `of` is a buffer for their numbers.
 fn numbered(
+    alloc: Global,
     names: &Names<'_>,
     bytes: &[u8],
-    one: Stated<'_>,
+    one: &Stated<'_>,
     of: &mut Numbers,
 ) -> Result<Formula, ModelError>
-    requires { IsStated bytes.now one }
-    ensures ok { IfOk result (λ formula. one_numbered one.entry (numbers names.now bytes.now one.entry.tokens) ≡ Ok formula) }
-    ensures refused { IfErr result (λ e. IsRefused e (one_numbered one.entry (numbers names.now bytes.now one.entry.tokens))) }
+    requires { IsStated bytes.now one.now }
+    ensures ok { IfOk result (λ formula. one_numbered one.now (numbers names.now bytes.now one.now.tokens) ≡ Ok formula) }
+    ensures refused { IfErr result (λ e. IsRefused e (one_numbered one.now (numbers names.now bytes.now one.now.tokens))) }
 {
-    let Stated {
-        line,
-        tokens,
-        mut formula,
-    } = one;
-    if !numbers(names, bytes, tokens, of)? {
-        return Err(refused(line, Reason::Unknown));
+    if !numbers(names, bytes, one.tokens, of)? {
+        return Err(refused(one.line, Reason::Unknown));
     }
-    formula.renumber(of.as_slice());
-    Ok(formula)
+    Ok(one.formula.numbered(alloc, of.as_slice())?)
 }
 
 /// Puts the number for each token in the place of what was in `of`, and answers whether every name is a feature's.

@@ -4,9 +4,8 @@ ghost use Rattle.uvl_lex.specs.Text.{IsSpanOf};
 ghost use Rattle.uvl_reader.specs.Attributes.{items_of, formulas_of_item};
 ghost use Rattle.uvl_reader.specs.inside.Standing.{with_tokens, with_all, with_listed, with_items, formula_refused, IsRefused};
 
-use crate::attributes::{formulas_of_item, is_comma};
+use crate::attributes::{formulas_of_item, items_of};
 use crate::error::{ModelError, Reason};
-use crate::shape::open_after;
 use feature_tree::{Formula, FormulaError, formula_of};
 use std::alloc::{AllocError, Global};
 use uvl_lex::Token;
@@ -111,16 +110,30 @@ impl<'a> Statements<'a> {
         ensures ok { OnOk result (with_items bytes.now line self.old (items_of attributes.now) ≡ Ok self.new) }
         ensures refused { IfErr result (λ e. IsRefused e (with_items bytes.now line self.old (items_of attributes.now))) }
     {
-        let mut from = 0;
-        let mut depth = 0;
-        for (i, token) in attributes.iter().enumerate() {
-            if is_comma(depth, token.kind) {
-                self.read_item(alloc, bytes, line, &attributes[from..i])?;
-                from = i + 1;
-            }
-            depth = open_after(depth, token.kind);
+        if attributes.is_empty() {
+            return Ok(());
         }
-        self.read_item(alloc, bytes, line, &attributes[from..])
+        let items = items_of(alloc, attributes)?;
+        self.read_items(alloc, bytes, line, items.as_slice())
+    }
+
+    /// The formulas of these items.
+    fn read_items(
+        &mut self,
+        alloc: Global,
+        bytes: &[u8],
+        line: u32,
+        items: &[&'a [Token]],
+    ) -> Result<(), ModelError>
+        requires few { All (λ item. length item.now < 2 ^ 31) items.now }
+        requires spans { All (λ item. All (IsSpanOf bytes.now) item.now) items.now }
+        ensures ok { OnOk result (with_items bytes.now line self.old (map (λ item. item.now) items.now) ≡ Ok self.new) }
+        ensures refused { IfErr result (λ e. IsRefused e (with_items bytes.now line self.old (map (λ item. item.now) items.now))) }
+    {
+        for item in items {
+            self.read_item(alloc, bytes, line, *item)?;
+        }
+        Ok(())
     }
 
     /// The formulas of this item.

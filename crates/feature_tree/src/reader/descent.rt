@@ -187,7 +187,7 @@ fn read_node(
         formula,
         mut height,
     } = first;
-    let mut parts = Row::from_vec(Vec::with_capacity(alloc, 2)?);
+    let mut parts = Row::new(alloc);
     parts.push(formula)?;
     'members: while joins_at(tokens, after, level) {
         let Found { parsed, after: end } = read_member(alloc, tokens, after + 1, level, room)?;

@@ -3,10 +3,10 @@ ghost use Rattle.std.specs.Prelude.{◌≡◌, ◌^◌, ◌+◌, ◌<◌, ◌≤
 ghost use Rattle.feature_tree.specs.Grammar.{named, negated, enclosed, paired};
 ghost use Rattle.feature_tree.specs.inside.Descent.{Answers, pair_of, node_within, joined_from_the_left, IsLow};
 
-use crate::boxed::Boxed;
 use crate::formula::{Formula, Formulas};
 use crate::reader::error::FormulaError;
 use crate::reader::role::Level;
+use sqlite_items::Boxed;
 use std::alloc::{AllocError, Global};
 
 /// A formula that was parsed, with its height. It is public because the grammar names it.

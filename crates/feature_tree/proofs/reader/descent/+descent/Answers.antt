@@ -26,7 +26,7 @@ read_node-members-init t c =
       low = omega arith;
       gathered = gathered-start (roles_of c.args.tokens.now) c.args.level c.args.room c.args.at c.in_ok-first.field-0 c.push.new.self c.in_ok-first.ensures.answers
           (sym c.joins_at.ensures.value ∙ c.if-not-joins_at.false) (omega arith)
-          (c.in_ok-push.ensures.ok ∙ ap (λ none. none ++ c.in_ok-first.field-0.parsed.formula ∷ []) (c.from_vec-parts.ensures ∙ c.in_ok-with_capacity.ensures.items));
+          (c.in_ok-push.ensures.ok ∙ ap (λ none. none ++ c.in_ok-first.field-0.parsed.formula ∷ []) c.new-parts.ensures);
     }
 
 pub read_node-returns-in_err-parsed-clause-answers : goal.read_node-returns-in_err-parsed-clause-answers
