@@ -17,8 +17,7 @@ use script::Run;
 use solver::{NoStop, Searcher, SolveError};
 use std::alloc::AllocError;
 use std::sync::Wait;
-use std::thread;
-use workers::Gate;
+use workers::{Gate, Patience};
 
 /// Answers the key that the run asks.
 pub(crate) fn answer_asked<R: Wait, G: Gate>(
@@ -126,11 +125,12 @@ fn answer_of<R: Wait>(
     ensures own { IsMainOf table.now main.new }
     ensures keeps { Keeps main.old.sees main.new.sees }
 {
+    let mut patience = Patience::new();
     'takes: for _ in rt.forever() {
         match table.take(main, number) {
             Took::Answered(verdict) => return Some(verdict),
             Took::Mine | Took::GivenUp => return None,
-            Took::Running => thread::yield_now(),
+            Took::Running => patience.pause(rt),
         }
     }
     unreachable!()

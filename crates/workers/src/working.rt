@@ -10,13 +10,13 @@ ghost use Rattle.workers.specs.inside.Tickets.{SameRest, SameSeat};
 use crate::gate::Gate;
 use crate::searching::KeptSearcher;
 use crate::stopping::SeatStop;
+use crate::waiting::Patience;
 use check_table::{CheckTable, Claimed, Drawn, GaveUp, Left, WorkerSeat};
 use clauses::Problem;
 use req_keys::Verdict;
 use solver::SolveError;
 use std::alloc::Global;
 use std::sync::Wait;
-use std::thread;
 
 /// Draws tickets and answers for their entries, until there are no more tickets or the table is stopped. A ticket whose
 /// entry isn't posted yet is kept until it is, so a worker runs as long as nobody posts or stops. Where it finds no memory
@@ -110,6 +110,7 @@ fn serve_ticket<R: Wait + Sync, G: Gate>(
 {
     let mut w = seat;
     gate.before(entry);
+    let mut patience = Patience::new();
     for _ in rt.forever() {
         match table.claim(&mut w) {
             Claimed::Taken => {
@@ -124,7 +125,7 @@ fn serve_ticket<R: Wait + Sync, G: Gate>(
                 if is_stopped(table, &mut w) {
                     return (w, false);
                 }
-                thread::yield_now();
+                patience.pause(rt);
             }
         }
     }
