@@ -7,7 +7,7 @@ ghost use Rattle.pref_sets.specs.FastDiag.{fd};
 ghost use Rattle.req_keys.specs.Wanting.{key_over, wanted_key};
 ghost use Rattle.fast_diag.specs.Diagnosing.{Diagnosing, next_of};
 
-use crate::parts::Part;
+use crate::parts::{Part, with_room};
 use lists::Row;
 use req_keys::{Key, Want};
 use std::alloc::{AllocError, Global};
@@ -64,8 +64,8 @@ impl FastDiag {
         }
     }
 
-    /// A state with one more answer.
-    fn with_answer(&self, sat: bool) -> Result<FastDiag, AllocError>
+    /// The state with one more answer, which goes on by itself. What stays is copied once.
+    pub fn after(&self, sat: bool) -> Result<FastDiag, AllocError>
         requires { IsAsking (next_of self.now) }
         ensures { (set : List ℕ) → next_of self.now ≡ Ask set → IfOk result (λ state. state ≡ record { n = self.now.n; told = self.now.told ++ record { set = set; sat = sat } ∷ [] }) }
     {
@@ -73,9 +73,9 @@ impl FastDiag {
             unreachable!()
         };
         let alloc = self.told.allocator();
-        let mut told = Row::from_slice(alloc, self.told.as_slice())?;
+        let mut told = with_room(alloc, self.told.as_slice())?;
         told.push(sat)?;
-        let part = asking.copy(alloc)?.told(alloc, sat)?;
+        let part = asking.after(alloc, sat)?;
         Ok(FastDiag {
             n: self.n,
             told,
@@ -89,7 +89,7 @@ impl FastDiag {
         ensures ok { (set : List ℕ) → next_of self.old ≡ Ask set → OnOk result (self.new ≡ record { n = self.old.n; told = self.old.told ++ record { set = set; sat = sat } ∷ [] }) }
         ensures err { OnErr result (self.new ≡ self.old) }
     {
-        let next = self.with_answer(sat)?;
+        let next = self.after(sat)?;
         *self = next;
         Ok(())
     }

@@ -75,25 +75,22 @@ impl Part {
 
 impl Asking {
     /// What is still to do after the answer to the asked key.
-    pub fn told(self, alloc: Global, sat: bool) -> Result<Part, AllocError>
-        requires { AsksRange self.kept.n self }
-        ensures parts { IfOk result (IsPart self.kept.n) }
-        ensures plan { IfOk result (λ part. remaining part ≡ after_answer sat (left_of self)) }
+    pub fn after(&self, alloc: Global, sat: bool) -> Result<Part, AllocError>
+        requires { AsksRange self.now.kept.n self.now }
+        ensures parts { IfOk result (IsPart self.now.kept.n) }
+        ensures plan { IfOk result (λ part. remaining part ≡ after_answer sat (left_of self.now)) }
     {
-        let Asking {
-            kept,
-            asked,
-            before,
-            length,
-            halves,
-        } = self;
+        let at = self.before + self.length;
+        let halves = with_room(alloc, self.halves.as_slice())?;
         if sat {
-            return settle(alloc, asked, before + length, halves);
+            let all = self.asked.copy()?;
+            return settle(alloc, all, at, halves);
         }
-        if length == 1 {
-            return settle(alloc, kept, before + length, halves);
+        let kept = self.kept.copy()?;
+        if self.length == 1 {
+            return settle(alloc, kept, at, halves);
         }
-        divide(alloc, kept, before, length, halves)
+        divide(alloc, kept, self.before, self.length, halves)
     }
 
     /// The same range, asked behind the same keys.
@@ -108,6 +105,15 @@ impl Asking {
             halves: Row::from_slice(alloc, self.halves.as_slice())?,
         })
     }
+}
+
+/// The items, with room for one more.
+pub(crate) fn with_room<T: Copy>(alloc: Global, items: &[T]) -> Result<Row<T>, AllocError>
+    ensures { IfOk result (λ row. row ≡ items.now) }
+{
+    let mut all = Vec::with_capacity(alloc, items.len().saturating_add(1))?;
+    all.extend_from_slice(items)?;
+    Ok(Row::from_vec(all))
 }
 
 /// The key and the range of positions above its members.

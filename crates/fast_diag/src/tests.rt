@@ -28,6 +28,20 @@ fn answer(
     state.tell(sat)
 }
 
+/// The key with these members is asked, and this is the state after this answer to it.
+fn after(
+    rt: &impl Abort,
+    state: &FastDiag,
+    asked: &[u32],
+    sat: bool,
+) -> Result<FastDiag, AllocError> {
+    let Want::Ask(key) = state.want() else {
+        rt.abort()
+    };
+    assert!(rt; key.positions()?.as_slice() == asked);
+    state.after(sat)
+}
+
 /// All is done, and these are kept.
 fn ends(rt: &impl Abort, state: &FastDiag, kept: &[u32]) -> Result<(), AllocError> {
     let Want::Done = state.want() else { rt.abort() };
@@ -90,7 +104,8 @@ fn goes_as_by_hand(rt: HostRuntime) -> Result<(), AllocError> {
     goes(&rt, alloc, 3, &[(&[1], true), (&[1, 2], true)], &[1, 2])
 }
 
-/// Nothing of the lower half is kept, and a part of the upper one; a copy in the middle goes on as the state does.
+/// Nothing of the lower half is kept, and a part of the upper one; a copy in the middle and the state after an answer go on
+/// as the state does.
 #[test]
 fn five_positions_and_a_copy(rt: HostRuntime) -> Result<(), AllocError> {
     let mut state = FastDiag::new(rt.alloc(), 5)?;
@@ -99,10 +114,10 @@ fn five_positions_and_a_copy(rt: HostRuntime) -> Result<(), AllocError> {
     answer(&rt, &mut state, &[2], false)?;
     answer(&rt, &mut state, &[3, 4, 5], false)?;
     answer(&rt, &mut state, &[3], true)?;
-    let mut copy = state.copy()?;
+    let copy = state.copy()?;
     answer(&rt, &mut state, &[3, 4], false)?;
     answer(&rt, &mut state, &[3, 5], true)?;
     ends(&rt, &state, &[3, 5])?;
-    answer(&rt, &mut copy, &[3, 4], true)?;
-    ends(&rt, &copy, &[3, 4])
+    let other = after(&rt, &copy, &[3, 4], true)?;
+    ends(&rt, &other, &[3, 4])
 }

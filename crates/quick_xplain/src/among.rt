@@ -38,13 +38,6 @@ impl Among {
         })
     }
 
-    /// An equal set.
-    pub fn copy(&self) -> Result<Among, AllocError>
-        ensures { IfOk result (λ among. among ≡ self.now) }
-    {
-        Among::new(&self.set)
-    }
-
     /// The number of positions that the set is of.
     pub fn n(&self) -> u32
         ensures n { result ≡ self.now.n }

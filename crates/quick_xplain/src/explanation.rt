@@ -8,16 +8,18 @@ ghost use Rattle.req_keys.specs.Wanting.{key_over, wanted_key};
 ghost use Rattle.quick_xplain.specs.Explaining.{Explaining, next_of};
 
 use crate::among::Among;
-use crate::parts::Part;
+use crate::parts::{Part, with_room};
 use lists::Row;
 use req_keys::{Key, Want};
 use std::alloc::{AllocError, Global};
 use std::marker::Model;
+use std::sync::Arc;
 
 /// QuickXplain over a start set of positions, of which all together are known to be Unsat, and none to be Sat.
 #[derive(Drop)]
 pub struct QuickXplain {
-    among: Among,
+    /// The start set, which copies share.
+    among: Arc<Among>,
     /// The answers so far. Each is on the key that was asked then.
     told: Row<bool>,
     /// What is still to do after them.
@@ -26,6 +28,7 @@ pub struct QuickXplain {
 
 impl Model for QuickXplain {
     ghost use Rattle.std.specs.Prelude.{[]};
+    ghost use Rattle.std.specs.Arc.{arc_value};
     ghost use Rattle.pref_sets.specs.QuickXplain.{qx};
     ghost use Rattle.pref_sets.specs.Answers.{told_in_turn};
     ghost use Rattle.quick_xplain.specs.Explaining.{Explaining};
@@ -33,9 +36,9 @@ impl Model for QuickXplain {
 
     ghost Value = { Explaining };
 
-    ghost view = { λ a. record { among = a.among; told = told_in_turn (qx a.among.members) [] a.told } };
+    ghost view = { λ a. record { among = arc_value a.among; told = told_in_turn (qx (arc_value a.among).members) [] a.told } };
 
-    ghost invariant = { λ a. Stands a.among a.told a.part };
+    ghost invariant = { λ a. Stands (arc_value a.among) a.told a.part };
 }
 
 impl QuickXplain {
@@ -47,7 +50,7 @@ impl QuickXplain {
         let among = Among::new(among)?;
         let part = Part::start(alloc, &among)?;
         Ok(QuickXplain {
-            among,
+            among: Arc::new(alloc, among)?,
             told: Row::new(alloc),
             part,
         })
@@ -68,29 +71,40 @@ impl QuickXplain {
         }
     }
 
-    /// Appends the answer to the asked key. The next part is made beside this one, which want of memory leaves as it was.
-    pub fn tell(&mut self, sat: bool) -> Result<(), AllocError>
-        requires { IsAsking (next_of self.old) }
-        ensures ok { (set : List ℕ) → next_of self.old ≡ Ask set → OnOk result (self.new ≡ record { among = self.old.among; told = self.old.told ++ record { set = set; sat = sat } ∷ [] }) }
-        ensures err { OnErr result (self.new ≡ self.old) }
+    /// The state with one more answer, which goes on by itself. It shares the start set, and what else stays is copied once.
+    pub fn after(&self, sat: bool) -> Result<QuickXplain, AllocError>
+        requires { IsAsking (next_of self.now) }
+        ensures { (set : List ℕ) → next_of self.now ≡ Ask set → IfOk result (λ state. state ≡ record { among = self.now.among; told = self.now.told ++ record { set = set; sat = sat } ∷ [] }) }
     {
         let Part::Asks(asking) = &self.part else {
             unreachable!()
         };
         let alloc = self.told.allocator();
-        let next = asking.copy(alloc)?.told(alloc, &self.among, sat)?;
-        self.told.push(sat)?;
-        self.part = next;
+        let mut told = with_room(alloc, self.told.as_slice())?;
+        told.push(sat)?;
+        let part = asking.after(alloc, &self.among, sat)?;
+        let among = Arc::try_clone(&self.among)?;
+        Ok(QuickXplain { among, told, part })
+    }
+
+    /// Appends the answer to the asked key. The next state is made beside this one, which want of memory leaves as it was.
+    pub fn tell(&mut self, sat: bool) -> Result<(), AllocError>
+        requires { IsAsking (next_of self.old) }
+        ensures ok { (set : List ℕ) → next_of self.old ≡ Ask set → OnOk result (self.new ≡ record { among = self.old.among; told = self.old.told ++ record { set = set; sat = sat } ∷ [] }) }
+        ensures err { OnErr result (self.new ≡ self.old) }
+    {
+        let next = self.after(sat)?;
+        *self = next;
         Ok(())
     }
 
-    /// An equal state, which goes on by itself.
+    /// An equal state, which goes on by itself. It shares the start set.
     pub fn copy(&self) -> Result<QuickXplain, AllocError>
         ensures { IfOk result (λ state. state ≡ self.now) }
     {
         let alloc = self.told.allocator();
         Ok(QuickXplain {
-            among: self.among.copy()?,
+            among: Arc::try_clone(&self.among)?,
             told: Row::from_slice(alloc, self.told.as_slice())?,
             part: self.part.copy(alloc)?,
         })

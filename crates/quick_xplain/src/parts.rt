@@ -61,20 +61,15 @@ impl Part {
 
 impl Asking {
     /// What is still to do after the answer to the asked key.
-    pub fn told(self, alloc: Global, among: &Among, sat: bool) -> Result<Part, AllocError>
-        requires { AsksRange among.now self }
+    pub fn after(&self, alloc: Global, among: &Among, sat: bool) -> Result<Part, AllocError>
+        requires { AsksRange among.now self.now }
         ensures parts { IfOk result (IsPart among.now) }
-        ensures plan { IfOk result (λ part. remaining among.now.members part ≡ after_answer sat (left_of among.now.members self)) }
+        ensures plan { IfOk result (λ part. remaining among.now.members part ≡ after_answer sat (left_of among.now.members self.now)) }
     {
-        let Asking {
-            conflict,
-            before,
-            length,
-            halves,
-            ..
-        } = self;
+        let conflict = self.conflict.copy()?;
+        let halves = with_room(alloc, self.halves.as_slice())?;
         if sat {
-            return descend(alloc, among, conflict, before, length, halves);
+            return descend(alloc, among, conflict, self.before, self.length, halves);
         }
         settle(alloc, among, conflict, halves)
     }
@@ -91,6 +86,15 @@ impl Asking {
             halves: Row::from_slice(alloc, self.halves.as_slice())?,
         })
     }
+}
+
+/// The items, with room for one more.
+pub(crate) fn with_room<T: Copy>(alloc: Global, items: &[T]) -> Result<Row<T>, AllocError>
+    ensures { IfOk result (λ row. row ≡ items.now) }
+{
+    let mut all = Vec::with_capacity(alloc, items.len().saturating_add(1))?;
+    all.extend_from_slice(items)?;
+    Ok(Row::from_vec(all))
 }
 
 /// The background of the range is asked.

@@ -41,6 +41,20 @@ fn answer(
     state.tell(sat)
 }
 
+/// The key with these members is asked, and this is the state after this answer to it.
+fn after(
+    rt: &impl Abort,
+    state: &QuickXplain,
+    asked: &[u32],
+    sat: bool,
+) -> Result<QuickXplain, AllocError> {
+    let Want::Ask(key) = state.want() else {
+        rt.abort()
+    };
+    assert!(rt; key.positions()?.as_slice() == asked);
+    state.after(sat)
+}
+
 /// All is done, and this is the conflict.
 fn ends(rt: &impl Abort, state: &QuickXplain, conflict: &[u32]) -> Result<(), AllocError> {
     let Want::Done = state.want() else { rt.abort() };
@@ -48,17 +62,17 @@ fn ends(rt: &impl Abort, state: &QuickXplain, conflict: &[u32]) -> Result<(), Al
     Ok(())
 }
 
-/// A start set that is no range; a copy in the middle goes on as the state does.
+/// A start set that is no range; a copy in the middle and the state after an answer go on as the state does.
 #[test]
 fn no_range_and_a_copy(rt: HostRuntime) -> Result<(), AllocError> {
     let mut state = among(&rt, rt.alloc(), 70, &[66, 2, 5])?;
     answer(&rt, &mut state, &[2], true)?;
     answer(&rt, &mut state, &[2, 5], true)?;
-    let mut copy = state.copy()?;
+    let copy = state.copy()?;
     answer(&rt, &mut state, &[2, 66], false)?;
     answer(&rt, &mut state, &[66], true)?;
     ends(&rt, &state, &[2, 66])?;
-    answer(&rt, &mut copy, &[2, 66], true)?;
-    answer(&rt, &mut copy, &[5, 66], false)?;
-    ends(&rt, &copy, &[5, 66])
+    let mut other = after(&rt, &copy, &[2, 66], true)?;
+    answer(&rt, &mut other, &[5, 66], false)?;
+    ends(&rt, &other, &[5, 66])
 }

@@ -1,4 +1,5 @@
 use Rattle.std.proofs.Common.{◌≡◌, [], sym, ◌∙◌, ap, subst}
+use Rattle.std.specs.Arc.{arc_value}
 use Rattle.std.specs.Prelude.{Some}
 use Rattle.pref_sets.specs.Answers.{IsToldInTurn}
 use Rattle.pref_sets.specs.AskedKey.{asked_key}
@@ -16,18 +17,18 @@ use Rattle.quick_xplain.proofs.explanation.QuickXplain.want.Goals as goal
 
 pub returns-in-Asks-clause-asks : goal.returns-in-Asks-clause-asks
 returns-in-Asks-clause-asks c =
-    let h = subst (λ (part : Part). Stands c.self.inside.among c.self.inside.told part) c.in-Asks.is c.self.invariant in
+    let h = subst (λ (part : Part). Stands (arc_value c.self.inside.among) c.self.inside.told part) c.in-Asks.is c.self.invariant in
     rw (← c.self.view_is)
-    (ap (λ (key : PositionSet). Some key) (asked-key c.self.inside.among c.self.inside.told c.in-Asks.asking h)
-    ∙ sym (ap (asked_key c.self.inside.among.n) (stands-asks c.self.inside.among c.self.inside.told c.in-Asks.asking h)))
+    (ap (λ (key : PositionSet). Some key) (asked-key (arc_value c.self.inside.among) c.self.inside.told c.in-Asks.asking h)
+    ∙ sym (ap (asked_key (arc_value c.self.inside.among).n) (stands-asks (arc_value c.self.inside.among) c.self.inside.told c.in-Asks.asking h)))
 
 pub returns-in-Done-clause-asks : goal.returns-in-Done-clause-asks
 returns-in-Done-clause-asks c =
-    let h = subst (λ (part : Part). Stands c.self.inside.among c.self.inside.told part) c.in-Done.is c.self.invariant in
-    rw (← c.self.view_is) (sym (ap (asked_key c.self.inside.among.n) (stands-done c.self.inside.among c.self.inside.told c.in-Done.field-0 h)))
+    let h = subst (λ (part : Part). Stands (arc_value c.self.inside.among) c.self.inside.told part) c.in-Done.is c.self.invariant in
+    rw (← c.self.view_is) (sym (ap (asked_key (arc_value c.self.inside.among).n) (stands-done (arc_value c.self.inside.among) c.self.inside.told c.in-Done.field-0 h)))
 
 told : (a : Inside) (d : Explaining) → the_view a ≡ d → IsToldInTurn (qx d.among.members) [] d.told
-told a d e = subst (λ (d : Explaining). IsToldInTurn (qx d.among.members) [] d.told) e (told-in_turn (qx a.among.members) [] a.told (IsToldInTurn-none (qx a.among.members) []))
+told a d e = subst (λ (d : Explaining). IsToldInTurn (qx d.among.members) [] d.told) e (told-in_turn (qx (arc_value a.among).members) [] a.told (IsToldInTurn-none (qx (arc_value a.among).members) []))
 
 pub returns-in-Asks-clause-told : goal.returns-in-Asks-clause-told
 returns-in-Asks-clause-told c = told c.self.inside c.args.self.now c.self.view_is

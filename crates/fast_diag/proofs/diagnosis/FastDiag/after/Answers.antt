@@ -10,8 +10,8 @@ use Rattle.fast_diag.specs.declared.parts.Asking.{Asking}
 use Rattle.fast_diag.specs.declared.parts.Part.{Part}
 use Rattle.fast_diag.specs.declared.parts.Part.TheVariants as part
 use Rattle.fast_diag.proofs.Standing.{stands-told, done-asks_none}
-use Rattle.fast_diag.proofs.diagnosis.FastDiag.with_answer.Goals as goal
-use Rattle.fast_diag.proofs.diagnosis.FastDiag.with_answer.Goals.{In_ok-part}
+use Rattle.fast_diag.proofs.diagnosis.FastDiag.after.Goals as goal
+use Rattle.fast_diag.proofs.diagnosis.FastDiag.after.Goals.{In_ok-part}
 
 pub unreachable-requires : goal.unreachable-requires
 unreachable-requires c =
@@ -20,10 +20,8 @@ unreachable-requires c =
     (subst (λ (d : Diagnosing). IsAsking (next_of d)) (sym c.self.view_is) c.requires)
 
 module _ (c : In_ok-part) where
-  stands : Stands c.self.inside.n c.self.inside.told (part.Asks c.in_ok-copy.field-0)
-  stands =
-      subst (λ (asking : Asking). Stands c.self.inside.n c.self.inside.told (part.Asks asking)) (sym c.in_ok-copy.ensures)
-      (subst (λ (part : Part). Stands c.self.inside.n c.self.inside.told part) c.in-Asks.is c.self.invariant)
+  stands : Stands c.self.inside.n c.self.inside.told (part.Asks c.in-Asks.asking)
+  stands = subst (λ (part : Part). Stands c.self.inside.n c.self.inside.told part) c.in-Asks.is c.self.invariant
 
   items : c.push.new.self ≡ c.self.inside.told ++ c.args.sat ∷ []
   items = c.in_ok-push.ensures.ok ∙ ap (λ (sats : List Bool). sats ++ c.args.sat ∷ []) (c.in_ok-told.ensures ∙ c.as_slice.ensures)
@@ -31,10 +29,11 @@ module _ (c : In_ok-part) where
 pub invariant_of-result : goal.invariant_of-result
 invariant_of-result c =
     let h = stands c in
-    let number : c.in_ok-copy.field-0.kept.n ≡ c.self.inside.n = h.parts.over in
+    let asking = c.in-Asks.asking in
+    let number : asking.kept.n ≡ c.self.inside.n = h.parts.over in
     let parts : IsPart c.self.inside.n c.in_ok-part.part = subst (λ n. IsPart n c.in_ok-part.part) number c.in_ok-part.ensures.parts in
     subst (λ (sats : List Bool). Stands c.self.inside.n sats c.in_ok-part.part) (sym (items c))
-    (stands-told c.self.inside.n c.self.inside.told c.in_ok-copy.field-0 h c.args.sat c.in_ok-part.part parts c.in_ok-part.ensures.plan)
+    (stands-told c.self.inside.n c.self.inside.told asking h c.args.sat c.in_ok-part.part parts c.in_ok-part.ensures.plan)
 
 pub returns : goal.returns
 returns c set e =
