@@ -152,3 +152,11 @@ one-answer n told answers set sat table has said none =
       lacking-less answers (answers ++ one ∷ []) told (key_over n set) known.0 sat (λ other b e. answer_to-told answers (one ∷ []) other b e) known.1 none
           (answer_to-beyond answers (one ∷ []) set none ∙ answer_to-first one []),
     )
+
+-- a recursion is told the verdict of the key that it asks, which is told last
+pub has-answer : (n : ℕ) (told : Told) (key : PositionSet) (v : Verdict) (sat : Bool) (answers : List Answer) (set : List ℕ) → answer_in (Some v) ≡ Some sat → key ≡ key_over n set → verdict_in told key ≡ None → IsTable n (told ++ (key, v) ∷ []) → HasAll answers (answers_of (told ++ (key, v) ∷ [])) → HasAll (answers ++ record { set = set; sat = sat } ∷ []) (answers_of (told ++ (key, v) ∷ []))
+has-answer n told key v sat answers set says is new table has =
+    let one : Told = (key, v) ∷ [] in
+    let known : verdict_in (told ++ one) key ≡ Some v = told-unknown told one key new ∙ ap (λ (b : Bool). cond b (Some v) None) (key_eq-refl key) in
+    has-push answers (answers_of (told ++ one)) set sat has
+    (table set ∙ ap answer_in (ap (verdict_in (told ++ one)) (sym is) ∙ known) ∙ says)

@@ -1,10 +1,11 @@
 -- Where a run stands, with more pairs told.
-use Rattle.std.proofs.Common.{◌≡◌, ℕ, ◌++◌, refl}
+use Rattle.std.proofs.Common.{◌≡◌, ℕ, List, ◌++◌, refl, sym, ap, ◌∙◌}
 use Rattle.std.specs.List.{range_with_len}
 use Rattle.fast_diag.specs.Diagnosing.{Diagnosing}
 use Rattle.hs_tree.specs.Hitting.{Hitting}
 use Rattle.quick_xplain.specs.Explaining.{Explaining}
 use Rattle.req_keys.specs.Key.{PositionSet, empty_key, full_key}
+use Rattle.req_keys.specs.Wanting.{key_over}
 use Rattle.req_keys.specs.declared.verdict.Verdict.TheVariants as verdict
 use Rattle.script.specs.declared.job.JobPlan.{JobPlan}
 use Rattle.script.specs.declared.job.Part.{Part}
@@ -56,3 +57,11 @@ list-more plan told more kept conflict state is = record {
   most = is.most;
   has = has-more state.told told more is.has;
 }
+
+-- what is wanted is one key
+pub same-key : (wanted : Wanted) (part other : Part) (key one : PositionSet) → wanted ≡ asks part key → wanted ≡ asks other one → key ≡ one
+same-key wanted part other key one e f = let g : asks part key ≡ asks other one = sym e ∙ f in cc (g)
+
+-- the key that a part asks, over the positions that the part is over
+pub asked-over : (n k : ℕ) (key : PositionSet) (set : List ℕ) → k ≡ n → key ≡ key_over n set → key ≡ key_over k set
+asked-over n k key set e h = h ∙ ap (λ (m : ℕ). key_over m set) (sym e)

@@ -3,8 +3,8 @@ ghost use Rattle.std.specs.Prelude.{◌≡◌, ◌<◌, ◌++◌, [], ◌∷◌,
 ghost use Rattle.pref_sets.specs.Answers.{Answer, Next, Ask, IsAsking, answer_to};
 ghost use Rattle.pref_sets.specs.AskedKey.{asked_key};
 ghost use Rattle.req_keys.specs.Key.{PositionSet};
-ghost use Rattle.req_keys.specs.Wanting.{wanted_key};
-ghost use Rattle.script.specs.Job.{answers_of};
+ghost use Rattle.req_keys.specs.Wanting.{key_over, wanted_key};
+ghost use Rattle.script.specs.Job.{answers_of, verdict_in};
 ghost use Rattle.script.specs.inside.Going.{HasAll, IsHalted, IsSaid, IsTable, lacking, told_beside};
 
 use crate::beside::Beside;
@@ -12,7 +12,7 @@ use req_keys::{Key, Verdict, Want};
 use std::alloc::AllocError;
 
 /// A recursion as a state that is told answers one by one.
-pub(crate) trait Recursion {
+pub(crate) trait Recursion: Drop + Sized {
     /// What the recursion began with: a set of its positions, and the greatest size of a diagnosis.
     ghost start: { Self → PositionSet × ℕ };
 
@@ -33,6 +33,17 @@ pub(crate) trait Recursion {
         ensures answers { (set : List ℕ) → next self.old (answers self.old) ≡ Ask set →
             OnOk result (answers self.new ≡ answers self.old ++ record { set = set; sat = sat } ∷ []) }
         ensures start { OnOk result (start self.new ≡ start self.old) };
+
+    /// The recursion with the answer to the asked key more, which goes on by itself.
+    fn after(&self, sat: bool) -> Result<Self, AllocError>
+        requires { IsAsking (next self.now (answers self.now)) }
+        ensures answers { (set : List ℕ) → next self.now (answers self.now) ≡ Ask set →
+            IfOk result (λ state. answers state ≡ answers self.now ++ record { set = set; sat = sat } ∷ []) }
+        ensures start { IfOk result (λ state. start state ≡ start self.now) };
+
+    /// An equal recursion, which goes on by itself.
+    fn again(&self) -> Result<Self, AllocError>
+        ensures { IfOk result (λ state. state ≡ self.now) };
 }
 
 /// Why a recursion goes no further.
@@ -94,6 +105,31 @@ fn step<R: Recursion>(told: &Beside<'_>, state: &mut R) -> Result<Option<Halt>, 
             asks_new(state);
             state.go_on(sat)?;
             Ok(None)
+        }
+    }
+}
+
+/// The recursion with the verdict of the key beside the pairs, which it asks. A Limit answers nothing.
+pub(crate) fn advance<R: Recursion>(told: &Beside<'_>, state: &R) -> Result<R, AllocError>
+    requires asks { (set : List ℕ) × (R.next state.now (R.answers state.now) ≡ Ask set) × (told.now.key.now ≡ key_over (R.start state.now).0.n set) }
+    requires new { verdict_in told.now.used.now told.now.key.now ≡ None }
+    requires table { IsTable (R.start state.now).0.n (told_beside told.now) }
+    requires has { HasAll (R.answers state.now) (answers_of (told_beside told.now)) }
+    ensures start { IfOk result (λ next. R.start next ≡ R.start state.now) }
+    ensures has { IfOk result (λ next. HasAll (R.answers next) (answers_of (told_beside told.now))) }
+{
+    match told.verdict {
+        Verdict::Sat => {
+            let next = state.after(true)?;
+            Ok(next)
+        }
+        Verdict::Unsat => {
+            let next = state.after(false)?;
+            Ok(next)
+        }
+        Verdict::Limit => {
+            let next = state.again()?;
+            Ok(next)
         }
     }
 }

@@ -29,6 +29,15 @@ impl Recursion for FastDiag {
         self.tell(sat)?;
         Ok(())
     }
+
+    fn after(&self, sat: bool) -> Result<FastDiag, AllocError> {
+        let next = FastDiag::after(self, sat)?;
+        Ok(next)
+    }
+
+    fn again(&self) -> Result<FastDiag, AllocError> {
+        self.copy()
+    }
 }
 
 impl Recursion for QuickXplain {
@@ -48,6 +57,15 @@ impl Recursion for QuickXplain {
         self.tell(sat)?;
         Ok(())
     }
+
+    fn after(&self, sat: bool) -> Result<QuickXplain, AllocError> {
+        let next = QuickXplain::after(self, sat)?;
+        Ok(next)
+    }
+
+    fn again(&self) -> Result<QuickXplain, AllocError> {
+        self.copy()
+    }
 }
 
 impl Recursion for HsTree {
@@ -66,5 +84,15 @@ impl Recursion for HsTree {
     fn go_on(&mut self, sat: bool) -> Result<(), AllocError> {
         self.tell(sat)?;
         Ok(())
+    }
+
+    fn after(&self, sat: bool) -> Result<HsTree, AllocError> {
+        let mut next = self.copy()?;
+        next.tell(sat)?;
+        Ok(next)
+    }
+
+    fn again(&self) -> Result<HsTree, AllocError> {
+        self.copy()
     }
 }

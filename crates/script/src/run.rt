@@ -10,6 +10,7 @@ ghost use Rattle.script.specs.inside.Going.{IsTable, told_beside};
 ghost use Rattle.script.specs.inside.Stages.{IsAt, IsPlan, Stands};
 
 use crate::beside::Beside;
+use crate::going::advance;
 use crate::job::{JobPlan, Outcome};
 use crate::stage::{Stage, begin, explain, keep, list};
 use crate::used::Used;
@@ -58,18 +59,18 @@ fn after(
     requires plan { IsPlan plan }
     requires table { IsTable plan.requirements (told_beside told.now) }
     requires at { IsAt plan told.now.used.now stage.now }
-    requires asks { (part : Part) × (key : PositionSet) × (want_after (record { plan = plan; told = told.now.used.now }) ≡ asks part key) }
+    requires asks { (part : Part) × (want_after (record { plan = plan; told = told.now.used.now }) ≡ asks part told.now.key.now) }
     ensures { IfOk result (IsAt plan (told_beside told.now)) }
 {
     match stage {
         Stage::All(_) | Stage::Background(_) => begin(alloc, plan, told),
         Stage::Kept(state) => {
-            let state = state.copy()?;
+            let state = advance(told, state)?;
             keep(alloc, plan, told, state)
         }
         Stage::Conflict { kept, state } => {
             let kept = kept.copy()?;
-            let state = state.copy()?;
+            let state = advance(told, state)?;
             explain(alloc, plan, told, kept, state)
         }
         Stage::Listing {
@@ -79,7 +80,7 @@ fn after(
         } => {
             let kept = kept.copy()?;
             let conflict = conflict.copy()?;
-            let state = state.copy()?;
+            let state = advance(told, state)?;
             list(alloc, plan, told, kept, conflict, state)
         }
         Stage::Done(_) => unreachable!(),

@@ -44,10 +44,11 @@ fn verdict_among(pairs: &[(Key, Verdict)], key: &Key) -> Option<Verdict>
     None
 }
 
+/// Equal pairs, with room for one more.
 fn copy_pairs(alloc: Global, pairs: &[(Key, Verdict)]) -> Result<Vec<(Key, Verdict)>, AllocError>
     ensures { IfOk result (λ copies. copies.items ≡ pairs.now) }
 {
-    let mut copies = Vec::new(alloc);
+    let mut copies = Vec::with_capacity(alloc, pairs.len().saturating_add(1))?;
     for (key, verdict) in pairs {
         copies.push((key.copy()?, *verdict))?;
     }
