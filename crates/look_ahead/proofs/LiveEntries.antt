@@ -1,5 +1,5 @@
 -- Lists of keys without a repeated one, and live entries with such keys.
-use Rattle.std.proofs.Common.{◌≡◌, ◌∙◌, refl, sym, ap, subst, ℕ, zero, suc, ◌+◌, ◌<◌, Bool, true, false, cond, List, [], ◌∷◌, ◌++◌, filter, length, get_or, take, Some, None, arith, ⊎_elim, add-zero}
+use Rattle.std.proofs.Common.{◌≡◌, ◌∙◌, refl, sym, ap, subst, ℕ, zero, suc, ◌+◌, ◌<◌, Bool, true, false, cond, List, [], ◌∷◌, ◌++◌, filter, length, get_or, take, not, Some, None, arith, ⊎_elim, add-zero}
 use Rattle.std.specs.Prelude.{All, Contains, is_none}
 use Rattle.std.specs.List.{AllByRecursion, IsDistinct as AreApart}
 use Rattle.std.specs.Map.{keys_of, lookup}
@@ -14,7 +14,7 @@ use Rattle.req_keys.specs.Order.{key_eq}
 use Rattle.script.proofs.Lookups.{key_eq-refl}
 use Rattle.script.proofs.Pairs.{lookup-append, or_else}
 use Rattle.look_ahead.specs.Ahead.{has_key}
-use Rattle.look_ahead.specs.Posting.{lacking, live_entry, numbered}
+use Rattle.look_ahead.specs.Posting.{lacking, live_entry, numbered, numbers_of}
 
 -- ---- lists without a repeated item
 
@@ -160,3 +160,9 @@ module _ (p : PositionSet × ℕ → Bool) (all kept rest : List (PositionSet ×
 
   pub kept-more : (new : List (PositionSet × ℕ)) → new ≡ kept ++ e ∷ [] → new ++ filter p rest ≡ filter p all
   kept-more new put = ap (λ l. l ++ filter p rest) put ∙ append_assoc kept (e ∷ []) (filter p rest) ∙ with_it
+
+  -- its number isn't among those of the entries that don't pass
+  pub cancelled-same : (numbers total : List ℕ) → numbers ++ numbers_of (filter (λ x. not (p x)) (e ∷ rest)) ≡ total → numbers ++ numbers_of (filter (λ x. not (p x)) rest) ≡ total
+  cancelled-same numbers total h =
+      let q : PositionSet × ℕ → Bool = λ x. not (p x) in
+      sym (ap (λ b. numbers ++ numbers_of (cond (not b) (e ∷ filter q rest) (filter q rest))) passes) ∙ h

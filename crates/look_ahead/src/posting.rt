@@ -40,6 +40,13 @@ pub(crate) struct Turn {
     pub orders: Orders,
 }
 
+/// The live entries that stay, and the numbers of those that are cancelled.
+#[derive(Drop)]
+pub(crate) struct Sifted {
+    pub kept: IndexMap<Key, u32>,
+    pub cancel: Numbers,
+}
+
 impl Posting {
     /// Nothing is posted, in a round of so many entries.
     pub fn new(alloc: Global, entries: u32) -> Result<Posting, AllocError>
@@ -136,8 +143,7 @@ fn turn_of(
     ensures { IfOk result (IsTurn (round_of entries live.now.entries taken) asked.now list.now) }
 {
     let wanted = set_of(alloc, list)?;
-    let kept = keep_wanted(alloc, live, asked, &wanted)?;
-    let cancel = unwanted_numbers(alloc, live, asked, &wanted)?;
+    let Sifted { kept, cancel } = sift(alloc, live, asked, &wanted)?;
     let missing = keys_lacking(alloc, &kept, list)?;
     if 0 < taken && ((entries - taken) as usize) < missing.len() {
         new_round(alloc, entries, &kept, cancel, list)
@@ -217,7 +223,7 @@ fn set_of(alloc: Global, list: &Keys) -> Result<IndexSet<Key>, AllocError>
     requires { IsDistinct list.now }
     ensures { IfOk result (λ set. set.keys ≡ list.now) }
 {
-    let mut set = IndexSet::new(alloc);
+    let mut set = IndexSet::with_capacity(alloc, list.len())?;
     'keys: for key in list.as_slice() {
         let key = key.copy()?;
         set.insert(key)?;
@@ -225,41 +231,27 @@ fn set_of(alloc: Global, list: &Keys) -> Result<IndexSet<Key>, AllocError>
     Ok(set)
 }
 
-/// The live entries that are wanted.
-fn keep_wanted(
+/// The live entries that are wanted, with room for as many more as there are in the list, and the numbers of the others.
+fn sift(
     alloc: Global,
     live: &IndexMap<Key, u32>,
     asked: &Key,
     wanted: &IndexSet<Key>,
-) -> Result<IndexMap<Key, u32>, AllocError>
-    ensures { IfOk result (λ kept. kept.entries ≡ filter (is_wanted asked.now wanted.now.keys) live.now.entries) }
+) -> Result<Sifted, AllocError>
+    ensures kept { IfOk result (λ sifted. sifted.kept.entries ≡ filter (is_wanted asked.now wanted.now.keys) live.now.entries) }
+    ensures cancel { IfOk result (λ sifted. sifted.cancel ≡ numbers_of (filter (λ entry. not (is_wanted asked.now wanted.now.keys entry)) live.now.entries)) }
 {
-    let mut kept = IndexMap::new(alloc);
+    let mut kept = IndexMap::with_capacity(alloc, live.len().saturating_add(wanted.len()))?;
+    let mut cancel = Numbers::new(alloc);
     'entries: for (key, number) in live {
         if key == asked || wanted.contains(key) {
             let key = key.copy()?;
             kept.insert(key, *number)?;
+        } else {
+            cancel.push(*number)?;
         }
     }
-    Ok(kept)
-}
-
-/// The numbers of the live entries that aren't wanted.
-fn unwanted_numbers(
-    alloc: Global,
-    live: &IndexMap<Key, u32>,
-    asked: &Key,
-    wanted: &IndexSet<Key>,
-) -> Result<Numbers, AllocError>
-    ensures { IfOk result (λ numbers. numbers ≡ numbers_of (filter (λ entry. not (is_wanted asked.now wanted.now.keys entry)) live.now.entries)) }
-{
-    let mut numbers = Numbers::new(alloc);
-    'entries: for (key, number) in live {
-        if !(key == asked || wanted.contains(key)) {
-            numbers.push(*number)?;
-        }
-    }
-    Ok(numbers)
+    Ok(Sifted { kept, cancel })
 }
 
 /// The keys without a live entry.

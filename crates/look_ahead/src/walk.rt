@@ -15,16 +15,17 @@ pub fn ahead<A: Asker>(alloc: Global, asker: &A, depth: u8) -> Result<Keys, Allo
     requires depth { depth ≤ 6 }
     ensures { IfOk result (λ keys. keys ≡ keys_ahead (A.wants asker.now) (A.told asker.now) depth) }
 {
-    let mut found = IndexSet::new(alloc);
     if depth == 0 {
         return Ok(Keys::new(alloc));
     }
+    let mut found = IndexSet::with_capacity(alloc, 2 << depth)?;
     let mut level = Vec::new(alloc);
     tell_either(asker, depth > 1, &mut found, &mut level)?;
     'lengths: for length in 1..depth {
         level = next_level(alloc, &level, length + 1 < depth, &mut found)?;
     }
-    copy_keys(alloc, found.as_slice())
+    let keys = found.into_iter().collect(alloc)?;
+    Ok(Keys::from_vec(keys))
 }
 
 /// The askers after one verdict more, Unsat before Sat, without those that are done, and only where they are kept. What they
@@ -153,15 +154,4 @@ fn keep<T: Drop>(list: &mut Vec<T>, item: Option<T>) -> Result<(), AllocError>
             Ok(())
         }
     }
-}
-
-/// Equal keys.
-fn copy_keys(alloc: Global, keys: &[Key]) -> Result<Keys, AllocError>
-    ensures { IfOk result (λ copies. copies ≡ keys.now) }
-{
-    let mut copies = Keys::new(alloc);
-    'keys: for key in keys {
-        copies.push(key.copy()?)?;
-    }
-    Ok(copies)
 }

@@ -12,12 +12,12 @@ use Rattle.look_ahead.proofs.posting.turn_of.Goals.{else-taken-gt0-via-then-take
 
 pub same_round-requires-clause-distinct : goal.same_round-requires-clause-distinct
 same_round-requires-clause-distinct c =
-    let kept = c.in_ok-kept.kept.entries in
+    let kept = c.in_ok-kept.field-0.kept.entries in
     subst IsDistinct (sym c.in_ok-missing.ensures) (distinct-filter (λ key. is_none (live_entry kept key)) c.args.list.now c.requires.distinct)
 
 pub same_round-requires-clause-lacking : goal.same_round-requires-clause-lacking
 same_round-requires-clause-lacking c =
-    let kept = c.in_ok-kept.kept.entries in
+    let kept = c.in_ok-kept.field-0.kept.entries in
     let P : List PositionSet → Type 0 = λ l. All (λ key. live_entry kept key ≡ None) l in
     subst P (sym c.in_ok-missing.ensures) (lacking-unknown kept c.args.list.now)
 
@@ -30,8 +30,8 @@ returns-then-entries-taken c =
     let taken = c.args.taken in
     let state = round_of entries live taken in
     let kept = filter (is_wanted asked list) live in
-    let kept_is : c.in_ok-kept.kept.entries ≡ kept = c.in_ok-kept.ensures ∙ ap (λ (l : List PositionSet). filter (is_wanted asked l) live) c.in_ok-wanted.ensures in
-    let cancel_is : c.in_ok-cancel.cancel ≡ unwanted asked list state = c.in_ok-cancel.ensures ∙ ap (λ (l : List PositionSet). numbers_of (filter (λ e. not (is_wanted asked l e)) live)) c.in_ok-wanted.ensures in
+    let kept_is : c.in_ok-kept.field-0.kept.entries ≡ kept = c.in_ok-kept.ensures.kept ∙ ap (λ (l : List PositionSet). filter (is_wanted asked l) live) c.in_ok-wanted.ensures in
+    let cancel_is : c.in_ok-kept.field-0.cancel ≡ unwanted asked list state = c.in_ok-kept.ensures.cancel ∙ ap (λ (l : List PositionSet). numbers_of (filter (λ e. not (is_wanted asked l e)) live)) c.in_ok-wanted.ensures in
     let missing_is : c.in_ok-missing.missing ≡ lacking kept list = c.in_ok-missing.ensures ∙ ap (λ (es : List (PositionSet × ℕ)). lacking es list) kept_is in
     let count : c.len.result ≡ length (lacking kept list) = c.len.ensures ∙ ap length missing_is in
     let some : 0 < taken = omega arith in
@@ -39,13 +39,13 @@ returns-then-entries-taken c =
     let full : is_full list (round_of entries kept taken) ≡ true = full-true entries taken kept list c.len.result count some more in
     turn_of_parts c.new_round.result
     (λ (t : Turn). t.orders.new_round ≡ true)
-    (λ (t : Turn). t.orders.cancel ≡ c.in_ok-cancel.cancel ++ numbers_of c.in_ok-kept.kept.entries)
+    (λ (t : Turn). t.orders.cancel ≡ c.in_ok-kept.field-0.cancel ++ numbers_of c.in_ok-kept.field-0.kept.entries)
     (λ (t : Turn). t.orders.post ≡ take entries (lacking [] list))
     (λ (t : Turn). t.live.entries ≡ numbered 0 t.orders.post)
     (λ (t : Turn). t.taken ≡ length t.orders.post)
     (IsTurn state asked list)
     c.new_round.ensures.new c.new_round.ensures.cancel c.new_round.ensures.post c.new_round.ensures.live c.new_round.ensures.taken
-    (λ t new cancel post here count_is. new_turn asked list entries taken live t full new (cancel ∙ ap (λ l. l ++ numbers_of c.in_ok-kept.kept.entries) cancel_is ∙ ap (λ (es : List (PositionSet × ℕ)). unwanted asked list state ++ numbers_of es) kept_is) post here count_is)
+    (λ t new cancel post here count_is. new_turn asked list entries taken live t full new (cancel ∙ ap (λ l. l ++ numbers_of c.in_ok-kept.field-0.kept.entries) cancel_is ∙ ap (λ (es : List (PositionSet × ℕ)). unwanted asked list state ++ numbers_of es) kept_is) post here count_is)
 
 pub returns : goal.returns
 returns c =
@@ -56,8 +56,8 @@ returns c =
     let taken = c.args.taken in
     let state = round_of entries live taken in
     let kept = filter (is_wanted asked list) live in
-    let kept_is : c.in_ok-kept.kept.entries ≡ kept = c.in_ok-kept.ensures ∙ ap (λ (l : List PositionSet). filter (is_wanted asked l) live) c.in_ok-wanted.ensures in
-    let cancel_is : c.in_ok-cancel.cancel ≡ unwanted asked list state = c.in_ok-cancel.ensures ∙ ap (λ (l : List PositionSet). numbers_of (filter (λ e. not (is_wanted asked l e)) live)) c.in_ok-wanted.ensures in
+    let kept_is : c.in_ok-kept.field-0.kept.entries ≡ kept = c.in_ok-kept.ensures.kept ∙ ap (λ (l : List PositionSet). filter (is_wanted asked l) live) c.in_ok-wanted.ensures in
+    let cancel_is : c.in_ok-kept.field-0.cancel ≡ unwanted asked list state = c.in_ok-kept.ensures.cancel ∙ ap (λ (l : List PositionSet). numbers_of (filter (λ e. not (is_wanted asked l e)) live)) c.in_ok-wanted.ensures in
     let missing_is : c.in_ok-missing.missing ≡ lacking kept list = c.in_ok-missing.ensures ∙ ap (λ (es : List (PositionSet × ℕ)). lacking es list) kept_is in
     let full : is_full list (round_of entries kept taken) ≡ false = elim c.else-taken-gt0.branch [
       | else-taken-gt0-via-then-taken-gt0+else-entries-taken w ↦
@@ -68,9 +68,9 @@ returns c =
     ] in
     turn_of_parts c.same_round.result
     (λ (t : Turn). t.orders.new_round ≡ false)
-    (λ (t : Turn). t.orders.cancel ≡ c.in_ok-cancel.cancel)
+    (λ (t : Turn). t.orders.cancel ≡ c.in_ok-kept.field-0.cancel)
     (λ (t : Turn). t.orders.post ≡ take (entries - taken) c.in_ok-missing.missing)
-    (λ (t : Turn). t.live.entries ≡ c.in_ok-kept.kept.entries ++ numbered taken t.orders.post)
+    (λ (t : Turn). t.live.entries ≡ c.in_ok-kept.field-0.kept.entries ++ numbered taken t.orders.post)
     (λ (t : Turn). t.taken ≡ taken + length t.orders.post)
     (IsTurn state asked list)
     c.same_round.ensures.new c.same_round.ensures.cancel c.same_round.ensures.post c.same_round.ensures.live c.same_round.ensures.taken
