@@ -14,7 +14,7 @@ use Rattle.propagation.specs.inside.Pairing.{ArePaired, IsOfTwo, Pairing, row_of
 use Rattle.propagation.specs.inside.Sorting.{AreListed, IsListed, IsPair, IsRow, IsSorted}
 use Rattle.propagation.specs.inside.Trails.{code_of}
 use Rattle.propagation.specs.inside.Watching.{AreInside, AreWatches, IsApart, partner, watched_at}
-use Rattle.propagation.proofs.Codes.{code-below, code-same}
+use Rattle.propagation.proofs.CodeLaws.{code-below, code-same}
 use Rattle.propagation.proofs.ChainLaws.{chain-below}
 use Rattle.propagation.proofs.ValueLaws.{same_or_not}
 use Rattle.propagation.proofs.VisitLaws.{of-two}

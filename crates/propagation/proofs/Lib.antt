@@ -3,7 +3,9 @@ pub mod GrowthLaws
 pub mod RootLaws
 pub mod RootSteps
 pub mod RoomLaws
-pub mod Codes
+pub mod CodeLaws
+pub mod NumberLaws
+pub mod FlatLaws
 pub mod TrailLaws
 pub mod TrailValues
 pub mod PairLaws
@@ -23,3 +25,4 @@ pub mod CutLaws
 pub mod BuildLaws
 pub mod StateLaws
 pub mod VisitLaws
+pub mod ReleaseLaws

@@ -11,7 +11,7 @@ use Rattle.clauses.specs.Problem.{IsBelow}
 use Rattle.propagation.specs.inside.Sorting.{HasRow, IsListed, IsPair, IsSent, IsSorted, IsSortedAt}
 use Rattle.propagation.specs.inside.Trails.{code_of}
 use Rattle.propagation.specs.inside.Watching.{AreChains, nothing, partner, watched_at}
-use Rattle.propagation.proofs.Codes.{code-below}
+use Rattle.propagation.proofs.CodeLaws.{code-below}
 use Rattle.propagation.proofs.ChainLaws.{chain-below, counted, chain_count, place-same, place-other, row-empty, row-other, row-same, row-some, shift-chains, shifted, shifted_place, head-inside, with_row}
 use Rattle.propagation.proofs.ChainMoves.{rename-chains, swapped, swapped_place, swapped-spare, swapped-other, renamed-size}
 use Rattle.propagation.proofs.RoomLaws.{distinct-few}

@@ -11,7 +11,7 @@ use Rattle.clauses.specs.Problem.{IsBelow}
 use Rattle.clauses.proofs.Literals.{has-from, from_has}
 use Rattle.propagation.specs.inside.Trails.{AreUnset, AreValues, IsTrail, code_of}
 use Rattle.propagation.proofs.TrailLaws.{place-is, same_bool, since-at}
-use Rattle.propagation.proofs.Codes.{code-below, code-same}
+use Rattle.propagation.proofs.CodeLaws.{code-below, code-same}
 
 has-push-same : (ls : List Lit) (l : Lit) → has (ls ++ l ∷ []) l ≡ true
 has-push-same ls l = has-from (ls ++ l ∷ []) l (Contains-append_right ls (l ∷ []) l (first l []))
@@ -26,6 +26,7 @@ has-push-other ls l x ne =
 
 pub values-push : (n : ℕ) (ls : List Lit) (values : List Bool) → AreValues n ls values → (l : Lit) → l.var < n → AreValues n (ls ++ l ∷ []) (set values (code_of l) true)
 values-push n ls values are l below = record {
+  few = are.few;
   sized = length-set values (code_of l) true ∙ are.sized;
   valued = λ x x_below.
       let inside : code_of l < length values = let low = code-below n l below in let size = are.sized in omega arith in
@@ -86,6 +87,7 @@ module _ (literals : List Lit) (places : List ℕ) (room : ℕ) (is : IsTrail li
 
     pub values-cut : (new : List Bool) → AreUnset values (drop count literals) new → AreValues (length places) (take count literals) new
     values-cut new unset = record {
+      few = are.few;
       sized = unset.0 ∙ are.sized;
       valued = λ x below.
           let low = code-below (length places) x below in

@@ -18,7 +18,7 @@ use Rattle.propagation.specs.declared.visits.Visit.TheVariants as visit
 use Rattle.propagation.specs.inside.Visits.{IsReplacement, IsStep}
 use Rattle.propagation.specs.inside.Watching.{AreChains, AreCovered, AreInside, AreKept, AreWatches, IsApart, IsCovered, IsChain, IsGrowth, IsRefuted, IsRelinked, IsSubset, nothing, partner, watched_at}
 use Rattle.propagation.proofs.ValueLaws.{Any-member}
-use Rattle.propagation.proofs.Codes.{code-below, code-same}
+use Rattle.propagation.proofs.CodeLaws.{code-below, code-same}
 use Rattle.propagation.proofs.ChainLaws.{chain-below, chain-counted, chain_count, place-same, place-other, row-same, with_row}
 use Rattle.propagation.proofs.RoomLaws.{distinct-few}
 use Rattle.propagation.proofs.UnlinkLaws.{IsLast, last-next, middle-out, relink-behind, relink-chains, relink-sizes, relinked as relinked_rows, relinked_place}

@@ -13,7 +13,7 @@ use Rattle.clauses.specs.Problem.{IsBelow}
 use Rattle.propagation.specs.inside.Pairing.{Pairing, row_of, start_in}
 use Rattle.propagation.specs.inside.Trails.{code_of}
 use Rattle.propagation.specs.inside.Watching.{AreWatches, IsApart, IsReleased, nothing, partner, watched_at}
-use Rattle.propagation.proofs.Codes.{code-below}
+use Rattle.propagation.proofs.CodeLaws.{code-below}
 use Rattle.propagation.proofs.ChainLaws.{place-same, place-other, row-some, head-inside}
 use Rattle.propagation.proofs.ChainMoves.{ended-chains, add-chains, added, added_place}
 

@@ -4,16 +4,17 @@ ghost use Rattle.clauses.specs.Problem.{IsBelow};
 ghost use Rattle.propagation.specs.inside.Building.{AreAllWatched, IsWatched};
 ghost use Rattle.propagation.specs.inside.Levels.{HasState};
 
+use crate::codes::Code;
+use crate::flat::{FlatClauses, FlatProblem};
 use crate::placing::{Place, place_of};
 use crate::propagating::propagate;
 use crate::state::State;
 use crate::trail::Trail;
 use crate::watches::Watches;
-use clauses::{Clauses, Lit, Problem};
 use std::alloc::AllocError;
 
 /// Watches two literals of the clause, or makes its only one true. False where it has none, or that is false.
-fn watch_clause(clause: &[Lit], own: &mut Watches, trail: &mut Trail) -> Result<bool, AllocError>
+fn watch_clause(clause: &[Code], own: &mut Watches, trail: &mut Trail) -> Result<bool, AllocError>
     requires variables { trail.old.variables ≡ own.old.variables }
     requires below { All (IsBelow own.old.variables) clause.now }
     ensures { IfOk result (IsWatched clause.now own.old own.new trail.old trail.new) }
@@ -41,7 +42,11 @@ fn watch_clause(clause: &[Lit], own: &mut Watches, trail: &mut Trail) -> Result<
 }
 
 /// Watches each clause of the problem. False where they clash already.
-fn watch_all(problem: &Problem, own: &mut Watches, trail: &mut Trail) -> Result<bool, AllocError>
+fn watch_all(
+    problem: &FlatProblem<'_>,
+    own: &mut Watches,
+    trail: &mut Trail,
+) -> Result<bool, AllocError>
     requires own_of { own.old.variables ≡ problem.now.variables }
     requires trail_of { trail.old.variables ≡ problem.now.variables }
     requires own_empty { own.old.watched ≡ [] }
@@ -49,8 +54,9 @@ fn watch_all(problem: &Problem, own: &mut Watches, trail: &mut Trail) -> Result<
     requires trail_empty { trail.old.literals ≡ [] }
     ensures { IfOk result (AreAllWatched problem.now own.new trail.new) }
 {
-    for clause in problem.clauses.as_slice() {
-        if !watch_clause(clause.as_slice(), own, trail)? {
+    let clauses = problem.clauses();
+    for number in 0..clauses.len() {
+        if !watch_clause(clauses.get(number), own, trail)? {
             return Ok(false);
         }
     }
@@ -59,8 +65,8 @@ fn watch_all(problem: &Problem, own: &mut Watches, trail: &mut Trail) -> Result<
 
 /// Watches each clause of the problem, and brings in what they force.
 pub(crate) fn begin(
-    problem: &Problem,
-    learned: &Clauses,
+    problem: &FlatProblem<'_>,
+    learned: &FlatClauses,
     own: &mut Watches,
     more: &mut Watches,
     trail: &mut Trail,
@@ -76,11 +82,10 @@ pub(crate) fn begin(
     requires learned_empty { learned.now ≡ [] }
     ensures { IfOk result (HasState problem.now [] [] trail.new own.new more.new [] (length trail.new.literals)) }
 {
-    let _ = &problem.variables;
     if !watch_all(problem, own, trail)? {
         return Ok(State::Dead);
     }
-    own.set_apart(problem.clauses.as_slice())?;
+    own.set_apart(problem.clauses())?;
     let fits = propagate(problem, learned, own, more, trail, 0);
     prove!(0 <= trail.len());
     if fits {

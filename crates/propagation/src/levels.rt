@@ -6,17 +6,19 @@ ghost use Rattle.propagation.specs.inside.Places.{HasPlace, IsUnit, is_found, st
 ghost use Rattle.propagation.specs.inside.Trails.{IsOneSigned};
 ghost use Rattle.propagation.specs.inside.Watching.{AreCovered};
 
+use crate::codes::Code;
+use crate::flat::{FlatClauses, FlatProblem};
 use crate::placing::{Place, end_of, level_for};
 use crate::propagating::propagate;
 use crate::state::State;
 use crate::trail::Trail;
 use crate::watches::Watches;
-use clauses::{Clauses, Lit, Problem};
+use clauses::Lit;
 
 /// Brings in the next assumed literal and all that it forces. False where they clash.
 fn bring_in(
-    problem: &Problem,
-    learned: &Clauses,
+    problem: &FlatProblem<'_>,
+    learned: &FlatClauses,
     own: &mut Watches,
     more: &mut Watches,
     trail: &mut Trail,
@@ -34,8 +36,8 @@ fn bring_in(
     ensures top { IsTopOrClashing problem.now learned.now assumed.now trail.new own.new more.new marks.new.items result }
     ensures room { vec_capacity marks.new ≡ vec_capacity marks.old }
 {
-    let literal = assumed[marks.len()];
     let start = trail.len();
+    let literal = Code::of(assumed[marks.len()]);
     marks.push_reserved(start);
     if trail.is_false(literal) {
         return false;
@@ -48,8 +50,8 @@ fn bring_in(
 
 /// Brings in the assumed literals that wait. False where they clash.
 pub(crate) fn bring_all(
-    problem: &Problem,
-    learned: &Clauses,
+    problem: &FlatProblem<'_>,
+    learned: &FlatClauses,
     own: &mut Watches,
     more: &mut Watches,
     trail: &mut Trail,
@@ -78,13 +80,13 @@ pub(crate) fn bring_all(
 /// Watches the two literals of the clause that was learned last, makes the first of them true, and brings in all that it
 /// forces. False where a clause is refuted.
 fn force(
-    problem: &Problem,
-    learned: &Clauses,
+    problem: &FlatProblem<'_>,
+    learned: &FlatClauses,
     own: &mut Watches,
     more: &mut Watches,
     trail: &mut Trail,
-    one: Lit,
-    other: Lit,
+    one: Code,
+    other: Code,
 ) -> bool
     requires parts { AreParts problem.now (front learned.now) trail.old own.old more.old }
     requires learned { learned.now ≡ front learned.now ++ last learned.now ∷ [] }
@@ -123,8 +125,8 @@ fn state_after(fits: bool, level: usize) -> State
 
 /// Watches the clause that was learned last, which has this place at the top, and brings in what it forces.
 fn enter(
-    problem: &Problem,
-    learned: &Clauses,
+    problem: &FlatProblem<'_>,
+    learned: &FlatClauses,
     own: &mut Watches,
     more: &mut Watches,
     trail: &mut Trail,
@@ -173,15 +175,15 @@ fn highest(state: State, marks: &[usize]) -> Option<usize>
 /// Goes back to the highest level, up to this one, at which the clause that was learned last can be watched, watches it
 /// there, and brings in the assumed literals again.
 fn learn_at(
-    problem: &Problem,
-    learned: &Clauses,
+    problem: &FlatProblem<'_>,
+    learned: &FlatClauses,
     own: &mut Watches,
     more: &mut Watches,
     trail: &mut Trail,
     marks: &mut Vec<usize>,
     assumed: &[Lit],
     base: usize,
-    clause: &[Lit],
+    clause: &[Code],
     most: usize,
 ) -> State
     requires standing { IsStanding problem.now (front learned.now) assumed.now trail.old own.old more.old marks.old.items base }
@@ -216,15 +218,15 @@ fn learn_at(
 
 /// Watches the clause that was learned last, if that makes a difference, and brings in what it forces.
 pub(crate) fn learn_in(
-    problem: &Problem,
-    learned: &Clauses,
+    problem: &FlatProblem<'_>,
+    learned: &FlatClauses,
     own: &mut Watches,
     more: &mut Watches,
     trail: &mut Trail,
     marks: &mut Vec<usize>,
     assumed: &[Lit],
     base: usize,
-    clause: &[Lit],
+    clause: &[Code],
     state: State,
 ) -> State
     requires state { HasState problem.now (front learned.now) assumed.now trail.old own.old more.old marks.old.items base state }

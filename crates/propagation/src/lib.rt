@@ -6,6 +6,8 @@
 #![tactic(auto)]
 
 mod building;
+mod codes;
+mod flat;
 mod laws;
 mod levels;
 mod pairs;

@@ -3,8 +3,8 @@ ghost use Rattle.std.specs.Prelude.{◌≡◌, ◌≤◌, [], All};
 ghost use Rattle.clauses.specs.Problem.{IsBelow};
 ghost use Rattle.propagation.specs.inside.Pairing.{AreRows, IsBrought, row_of};
 
+use crate::codes::Code;
 use crate::trail::Trail;
-use clauses::Lit;
 use std::alloc::Global;
 use std::marker::Model;
 
@@ -14,7 +14,7 @@ pub(crate) struct Pairs {
     /// Where each row begins, and where the last one ends. Empty where no clause is apart.
     pub starts: Vec<usize>,
     /// The rows, one behind the other.
-    pub others: Vec<Lit>,
+    pub others: Vec<Code>,
 }
 
 impl Model for Pairs {
@@ -39,7 +39,7 @@ impl Pairs {
     }
 
     /// The row of this number.
-    pub fn row(&self, slot: usize) -> &[Lit]
+    pub fn row(&self, slot: usize) -> &[Code]
         ensures { result.now ≡ row_of self.now slot }
     {
         if slot < self.starts.len() && slot + 1 < self.starts.len() {
@@ -51,7 +51,7 @@ impl Pairs {
 }
 
 /// Makes the literals of the row true, up to one that is false, and answers whether there is none.
-pub(crate) fn bring_row(row: &[Lit], trail: &mut Trail) -> bool
+pub(crate) fn bring_row(row: &[Code], trail: &mut Trail) -> bool
     requires { All (IsBelow trail.old.variables) row.now }
     ensures { IsBrought row.now trail.old trail.new result }
 {

@@ -3,26 +3,26 @@ ghost use Rattle.std.specs.Prelude.{◌≡◌, ◌≤◌, ◌↔◌, All, IsTrue
 ghost use Rattle.clauses.specs.Problem.{IsBelow};
 ghost use Rattle.propagation.specs.inside.Places.{HasPlace, IsLate, IsOpenBeside, end_at, is_found, start_at};
 
+use crate::codes::Code;
 use crate::trail::Trail;
-use clauses::Lit;
 
 /// Where it stands.
 #[derive(Clone, Copy)]
 pub(crate) enum Place {
     /// Two of its literals aren't false.
-    Open(Lit, Lit),
+    Open(Code, Code),
     /// Only the first isn't false, and the second became so at this level.
-    Forced(Lit, Lit),
+    Forced(Code, Code),
     /// Only this literal isn't false, and the others were so below.
-    Alone(Lit),
+    Alone(Code),
     /// All its literals are false.
     Refuted,
 }
 
 impl Place {
     /// Whether it can be watched at two literals that weren't false below.
-    fn is_found(self) -> bool
-        ensures { result ≡ is_found self }
+    fn is_found(&self) -> bool
+        ensures { result ≡ is_found self.now }
     {
         match self {
             Place::Open(_, _) | Place::Forced(_, _) => true,
@@ -32,19 +32,19 @@ impl Place {
 }
 
 /// Whether it is there and is this literal.
-fn is_the_one(only: Option<Lit>, literal: Lit) -> bool
-    ensures { IsTrue result ↔ (only ≡ Some literal) }
+fn is_the_one(only: &Option<Code>, literal: Code) -> bool
+    ensures { IsTrue result ↔ (only.now ≡ Some literal) }
 {
-    only == Some(literal)
+    *only == Some(literal)
 }
 
 /// A literal of the clause that the first so many of the trail don't make false, and that isn't the given one.
-fn open_beside(clause: &[Lit], trail: &Trail, end: usize, but: Option<Lit>) -> Option<Lit>
+fn open_beside(clause: &[Code], trail: &Trail, end: usize, but: Option<Code>) -> Option<Code>
     requires { All (IsBelow trail.now.variables) clause.now }
     ensures { IsOpenBeside (take end trail.now.literals) clause.now but result }
 {
     for literal in clause {
-        if is_the_one(but, *literal) || trail.was_false(*literal, end) {
+        if is_the_one(&but, *literal) || trail.was_false(*literal, end) {
             continue;
         }
         return Some(*literal);
@@ -53,7 +53,7 @@ fn open_beside(clause: &[Lit], trail: &Trail, end: usize, but: Option<Lit>) -> O
 }
 
 /// A literal of the clause that became false between these places.
-fn late_in(clause: &[Lit], trail: &Trail, end: usize, start: usize) -> Option<Lit>
+fn late_in(clause: &[Code], trail: &Trail, end: usize, start: usize) -> Option<Code>
     requires { All (IsBelow trail.now.variables) clause.now }
     ensures { IsLate (take end trail.now.literals) (take start trail.now.literals) clause.now result }
 {
@@ -67,7 +67,7 @@ fn late_in(clause: &[Lit], trail: &Trail, end: usize, start: usize) -> Option<Li
 }
 
 /// Where the clause stands between these places.
-pub(crate) fn place_of(clause: &[Lit], trail: &Trail, end: usize, start: usize) -> Place
+pub(crate) fn place_of(clause: &[Code], trail: &Trail, end: usize, start: usize) -> Place
     requires { All (IsBelow trail.now.variables) clause.now }
     ensures { HasPlace (take end trail.now.literals) (take start trail.now.literals) clause.now result }
 {
@@ -104,7 +104,7 @@ fn start_of(marks: &[usize], level: usize) -> usize
 
 /// The highest level, up to this one, at which the clause can be watched, or the lowest.
 pub(crate) fn level_for(
-    clause: &[Lit],
+    clause: &[Code],
     trail: &Trail,
     marks: &[usize],
     most: usize,
@@ -119,7 +119,8 @@ pub(crate) fn level_for(
     loop {
         let end = end_of(marks, trail.len(), level);
         let place = place_of(clause, trail, end, start_of(marks, level));
-        if level == 0 || place.is_found() {
+        let found = place.is_found();
+        if level == 0 || found {
             return (level, place);
         }
         level -= 1;

@@ -3,14 +3,14 @@ ghost use Rattle.std.specs.Prelude.{◌++◌, ◌≤◌, IsTrue, length, take};
 ghost use Rattle.propagation.specs.inside.Levels.{AreParts, HasPropagated};
 ghost use Rattle.propagation.specs.inside.Watching.{AreCovered};
 
+use crate::flat::{FlatClauses, FlatProblem};
 use crate::trail::Trail;
 use crate::watches::Watches;
-use clauses::{Clauses, Problem};
 
 /// Brings in what the literals of the trail force from this place on. False where a clause is refuted.
 pub(crate) fn propagate(
-    problem: &Problem,
-    learned: &Clauses,
+    problem: &FlatProblem<'_>,
+    learned: &FlatClauses,
     own: &mut Watches,
     more: &mut Watches,
     trail: &mut Trail,
@@ -26,10 +26,10 @@ pub(crate) fn propagate(
     let mut head = start;
     while head < trail.len() {
         let literal = trail.get(head).negated();
-        if !own.spread(problem.clauses.as_slice(), literal, trail) {
+        if !own.spread(problem.clauses(), literal, trail) {
             return false;
         }
-        if !more.spread(learned.as_slice(), literal, trail) {
+        if !more.spread(learned, literal, trail) {
             return false;
         }
         head += 1;

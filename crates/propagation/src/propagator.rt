@@ -7,6 +7,8 @@ ghost use Rattle.propagation.specs.Propagation.{propagated, value_of};
 ghost use Rattle.propagation.specs.Room.{AreDistinctBehind, HasRoom, IsMadeTrue};
 
 use crate::building::begin;
+use crate::codes::Code;
+use crate::flat::{FlatClauses, FlatProblem};
 use crate::levels::{bring_all, learn_in};
 use crate::state::{State, brought};
 use crate::trail::Trail;
@@ -23,11 +25,13 @@ const ROOM_FOR_POSITIONS: usize = 4096;
 #[derive(Drop)]
 pub struct Propagator<'a> {
     /// What it is about.
-    problem: &'a Problem,
+    problem: FlatProblem<'a>,
     /// With room reserved for as many as there may ever be.
     assumed: Vec<Lit>,
     /// In the order in which they were learned.
     learned: Clauses,
+    /// The same, in one row.
+    flat: FlatClauses,
     /// Whether the clauses with both clash.
     state: State,
     /// The closure, in the order in which its literals came.
@@ -50,9 +54,27 @@ impl<'a> Model for Propagator<'a> {
 
     ghost use Rattle.propagation.specs.inside.UpToDate.{IsUpToDate};
 
-    ghost view = { λ a. record { problem = a.problem.now; assumed = a.assumed.items; learned = a.learned } };
+    ghost view = { λ a. record { problem = a.problem; assumed = a.assumed.items; learned = a.learned } };
 
-    ghost invariant = { λ a. IsUpToDate (record { problem = a.problem.now; assumed = a.assumed.items; learned = a.learned }) a.trail a.watches a.learned_watches a.marks.items a.base a.state (vec_capacity a.assumed) (vec_capacity a.marks) };
+    ghost invariant = { λ a. IsUpToDate (record { problem = a.problem; assumed = a.assumed.items; learned = a.learned }) a.flat a.trail a.watches a.learned_watches a.marks.items a.base a.state (vec_capacity a.assumed) (vec_capacity a.marks) };
+}
+
+/// Appends the clause to both lists, or after want of memory to none.
+fn keep(learned: &mut Clauses, flat: &mut FlatClauses, clause: &[Lit]) -> Result<(), AllocError>
+    requires below { All (IsBelow 1000000) clause.now }
+    ensures learned { OnOk result (learned.new ≡ learned.old ++ clause.now ∷ []) }
+    ensures flat { OnOk result (flat.new ≡ flat.old ++ clause.now ∷ []) }
+    ensures learned_err { OnErr result (learned.new ≡ learned.old) }
+    ensures flat_err { OnErr result (flat.new ≡ flat.old) }
+{
+    let copy = Clause::from_slice(learned.allocator(), clause)?;
+    let before = learned.len();
+    learned.push(copy)?;
+    if let Err(error) = flat.push(clause) {
+        learned.truncate(before);
+        return Err(error);
+    }
+    Ok(())
 }
 
 impl<'a> Propagator<'a> {
@@ -66,12 +88,14 @@ impl<'a> Propagator<'a> {
         let assumed = Vec::with_capacity(alloc, variables + ROOM_FOR_POSITIONS)?;
         let marks = Vec::with_capacity(alloc, variables + ROOM_FOR_POSITIONS)?;
         let learned = Clauses::new(alloc);
+        let flat = FlatClauses::new(alloc);
+        let problem = FlatProblem::new(alloc, problem)?;
         let mut trail = Trail::new(alloc, variables)?;
         let mut watches = Watches::new(alloc, variables)?;
         let mut learned_watches = Watches::new(alloc, variables)?;
         let state = begin(
-            problem,
-            &learned,
+            &problem,
+            &flat,
             &mut watches,
             &mut learned_watches,
             &mut trail,
@@ -81,6 +105,7 @@ impl<'a> Propagator<'a> {
             problem,
             assumed,
             learned,
+            flat,
             state,
             trail,
             marks,
@@ -100,8 +125,8 @@ impl<'a> Propagator<'a> {
     {
         self.assumed.push_reserved(lit);
         let fits = bring_all(
-            self.problem,
-            &self.learned,
+            &self.problem,
+            &self.flat,
             &mut self.watches,
             &mut self.learned_watches,
             &mut self.trail,
@@ -164,6 +189,7 @@ impl<'a> Propagator<'a> {
         self.assumed.clear();
         self.marks.clear();
         self.learned_watches.clear();
+        self.flat.clear();
         if self.state.is_dead() {
             return learned;
         }
@@ -179,19 +205,19 @@ impl<'a> Propagator<'a> {
         ensures no_clash { IfOk result (λ no_clash. no_clash ≡ not (clash (propagated self.new))) }
         ensures err { OnErr result (self.new ≡ self.old) }
     {
-        let copy = Clause::from_slice(*self.assumed.allocator(), clause)?;
         self.learned_watches.reserve()?;
-        self.learned.push(copy)?;
+        keep(&mut self.learned, &mut self.flat, clause)?;
+        let last = self.flat.get(self.flat.len() - 1);
         self.state = learn_in(
-            self.problem,
-            &self.learned,
+            &self.problem,
+            &self.flat,
             &mut self.watches,
             &mut self.learned_watches,
             &mut self.trail,
             &mut self.marks,
             self.assumed.as_slice(),
             self.base,
-            clause,
+            last,
             self.state,
         );
         Ok(self.state.is_rest())
@@ -229,7 +255,7 @@ impl<'a> Propagator<'a> {
         ensures problem { result.now ≡ self.now.problem }
         ensures lawful { IsProblem self.now.problem }
     {
-        self.problem
+        self.problem.about()
     }
 
     /// The literals that are assumed, in their order.

@@ -4,34 +4,35 @@ ghost use Rattle.clauses.specs.Problem.{IsBelow};
 ghost use Rattle.propagation.specs.inside.Sorting.{HasRow, IsPair, IsSent, IsSorted};
 ghost use Rattle.propagation.specs.inside.Watching.{AreInside, partner, watched_at};
 
+use crate::codes::Code;
+use crate::flat::FlatClauses;
 use crate::watches::{NOTHING, partner, shift};
-use clauses::{Clause, Lit};
 
 /// Whether the literals are two.
-fn is_other(a: Lit, b: Lit) -> bool
+fn is_other(a: Code, b: Code) -> bool
     ensures { IsTrue result ↔ (a ≢ b) }
 {
     a != b
 }
 
 /// Whether the clause of the entry has two literals, and both are watched.
-fn is_pair(clauses: &[Clause], watched: &[Lit], entry: usize) -> bool
+fn is_pair(clauses: &FlatClauses, watched: &[Code], entry: usize) -> bool
     requires inside { AreInside clauses.now watched.now }
     requires entry { entry < length watched.now }
     ensures { IsTrue result ↔ IsPair clauses.now watched.now entry }
 {
-    let two = clauses[entry / 2].as_slice().len() == 2;
+    let two = clauses.get(entry / 2).len() == 2;
     two && is_other(watched[entry], watched[partner(entry)])
 }
 
 /// The chain to which the entry goes: the last one where its clause has two literals, and the other literal is appended; else the spare
 /// one.
 fn chain_for(
-    clauses: &[Clause],
-    watched: &[Lit],
+    clauses: &FlatClauses,
+    watched: &[Code],
     entry: usize,
     spare: usize,
-    others: &mut Vec<Lit>,
+    others: &mut Vec<Code>,
 ) -> usize
     requires inside { AreInside clauses.now watched.now }
     requires entry { entry < length watched.now }
@@ -49,13 +50,13 @@ fn chain_for(
 
 /// Appends the row of the slot, and leaves in its chain the entries of clauses that aren't of two literals.
 pub(crate) fn sort_chain(
-    clauses: &[Clause],
-    watched: &[Lit],
+    clauses: &FlatClauses,
+    watched: &[Code],
     heads: &mut [usize],
     next: &mut [usize],
     slot: usize,
     variables: usize,
-    others: &mut Vec<Lit>,
+    others: &mut Vec<Code>,
 )
     requires inside { AreInside clauses.now watched.now }
     requires sorted { IsSorted clauses.now variables watched.now slot (length others.old.items) heads.old next.old }

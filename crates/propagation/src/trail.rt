@@ -3,6 +3,7 @@ ghost use Rattle.std.specs.Prelude.{◌≡◌, ◌<◌, ◌≤◌, [], ◌∷◌
 ghost use Rattle.clauses.specs.Clause.{has, negation};
 ghost use Rattle.propagation.specs.inside.Trails.{AreUnset, IsOneSigned, IsTakenIn, code_of, value_in};
 
+use crate::codes::Code;
 use clauses::Lit;
 use std::alloc::{AllocError, Global};
 use std::marker::Model;
@@ -11,7 +12,7 @@ use std::marker::Model;
 #[derive(Drop)]
 pub(crate) struct Trail {
     /// With room for one of each variable.
-    literals: Vec<Lit>,
+    literals: Vec<Code>,
     /// By the variable's number: where its literal stands, if one does.
     places: Vec<usize>,
     /// By the literal's number: whether it stands there.
@@ -49,11 +50,12 @@ impl Trail {
         ensures value { result ≡ length self.now.literals }
         ensures most { result ≤ self.now.variables }
         ensures one_signed { IsOneSigned self.now.literals }
+        ensures few { self.now.variables ≤ 1000000 }
     {
         self.literals.len()
     }
 
-    pub fn get(&self, i: usize) -> Lit
+    pub fn get(&self, i: usize) -> Code
         requires { i < length self.now.literals }
         ensures value { slice_get self.now.literals i ≡ Some result }
         ensures variable { result.var < self.now.variables }
@@ -62,16 +64,16 @@ impl Trail {
     }
 
     /// Whether the literal is on the trail.
-    pub fn is_true(&self, literal: Lit) -> bool
+    pub fn is_true(&self, literal: Code) -> bool
         requires { literal.var < self.now.variables }
         ensures answer { result ≡ has self.now.literals literal }
         ensures one_signed { IsOneSigned self.now.literals }
     {
-        self.values[code_of(literal)]
+        self.values[literal.slot()]
     }
 
     /// Whether its negation is.
-    pub fn is_false(&self, literal: Lit) -> bool
+    pub fn is_false(&self, literal: Code) -> bool
         requires { literal.var < self.now.variables }
         ensures { result ≡ has self.now.literals (negation literal) }
     {
@@ -79,15 +81,15 @@ impl Trail {
     }
 
     /// Whether the literal is among the first so many.
-    pub fn was_true(&self, literal: Lit, count: usize) -> bool
+    pub fn was_true(&self, literal: Code, count: usize) -> bool
         requires { literal.var < self.now.variables }
         ensures { result ≡ has (take count self.now.literals) literal }
     {
-        self.places[literal.var as usize] < count && self.is_true(literal)
+        self.places[literal.variable()] < count && self.is_true(literal)
     }
 
     /// Whether its negation is.
-    pub fn was_false(&self, literal: Lit, count: usize) -> bool
+    pub fn was_false(&self, literal: Code, count: usize) -> bool
         requires { literal.var < self.now.variables }
         ensures { result ≡ has (take count self.now.literals) (negation literal) }
     {
@@ -95,7 +97,7 @@ impl Trail {
     }
 
     /// Makes the literal true, unless it is.
-    pub fn take_in(&mut self, literal: Lit)
+    pub fn take_in(&mut self, literal: Code)
         requires variable { literal.var < self.old.variables }
         requires not_false { has self.old.literals (negation literal) ≡ false }
         ensures { IsTakenIn self.old literal self.new }
@@ -110,30 +112,29 @@ impl Trail {
         requires { var < self.now.variables }
         ensures { result ≡ value_in self.now.literals var }
     {
-        if self.is_true(Lit {
+        prove!(0 <= self.len());
+        let positive = Code::of(Lit {
             var,
             positive: true,
-        }) {
+        });
+        if self.is_true(positive) {
             return Some(true);
         }
-        if self.is_true(Lit {
-            var,
-            positive: false,
-        }) {
+        if self.is_true(positive.negated()) {
             return Some(false);
         }
         None
     }
 
     /// Appends the literal.
-    pub fn put(&mut self, literal: Lit)
+    pub fn put(&mut self, literal: Code)
         requires variable { literal.var < self.old.variables }
         requires not_true { has self.old.literals literal ≡ false }
         requires not_false { has self.old.literals (negation literal) ≡ false }
         ensures { self.new ≡ record self.old { literals = self.old.literals ++ literal ∷ [] } }
     {
-        self.places[literal.var as usize] = self.literals.len();
-        self.values[code_of(literal)] = true;
+        self.places[literal.variable()] = self.literals.len();
+        self.values[literal.slot()] = true;
         self.literals.push_reserved(literal);
     }
 
@@ -149,19 +150,12 @@ impl Trail {
     }
 }
 
-/// The number of the literal.
-pub(crate) fn code_of(literal: Lit) -> usize
-    ensures { result ≡ code_of literal }
-{
-    2 * literal.var as usize + usize::from(literal.positive)
-}
-
 /// None of these literals stands there any more.
-fn unset(values: &mut [bool], literals: &[Lit])
+fn unset(values: &mut [bool], literals: &[Code])
     requires { All (λ literal. code_of literal < length values.old) literals.now }
     ensures { AreUnset values.old literals.now values.new }
 {
     for literal in literals {
-        values[code_of(*literal)] = false;
+        values[literal.slot()] = false;
     }
 }

@@ -4,8 +4,8 @@ ghost use Rattle.clauses.specs.Clause.{negation};
 ghost use Rattle.clauses.specs.Problem.{IsBelow};
 ghost use Rattle.propagation.specs.inside.Visits.{IsReplacement, IsVisit};
 
+use crate::codes::Code;
 use crate::trail::Trail;
-use clauses::Lit;
 
 /// What becomes of it.
 #[derive(Clone, Copy)]
@@ -13,20 +13,20 @@ pub(crate) enum Visit {
     /// The other watched literal is true, so it may be watched as before.
     Stays,
     /// This literal is to be watched.
-    Moves(Lit),
+    Moves(Code),
     /// All its literals are false.
     Refuted,
 }
 
 /// Whether the literals are one.
-fn is_same(a: Lit, b: Lit) -> bool
+fn is_same(a: Code, b: Code) -> bool
     ensures { IsTrue result ↔ (a ≡ b) }
 {
     a == b
 }
 
 /// A literal of the clause that isn't false, and isn't the other watched one.
-fn replacement(clause: &[Lit], other: Lit, trail: &Trail) -> Option<Lit>
+fn replacement(clause: &[Code], other: Code, trail: &Trail) -> Option<Code>
     requires { All (IsBelow trail.now.variables) clause.now }
     ensures { IsReplacement trail.now.literals clause.now other result }
 {
@@ -41,7 +41,7 @@ fn replacement(clause: &[Lit], other: Lit, trail: &Trail) -> Option<Lit>
 
 /// Looks at the clause, of which this literal is false and the other one is watched too, and brings in the other one where it
 /// is forced.
-pub(crate) fn look_at(clause: &[Lit], literal: Lit, other: Lit, trail: &mut Trail) -> Visit
+pub(crate) fn look_at(clause: &[Code], literal: Code, other: Code, trail: &mut Trail) -> Visit
     requires clause { All (IsBelow trail.old.variables) clause.now }
     requires literal_in { Contains clause.now literal }
     requires other_in { Contains clause.now other }

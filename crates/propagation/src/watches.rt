@@ -8,11 +8,12 @@ ghost use Rattle.propagation.specs.inside.Pairing.{ArePaired, row_of};
 ghost use Rattle.propagation.specs.inside.Trails.{code_of};
 ghost use Rattle.propagation.specs.inside.Watching.{AreInside, AreKept, IsGrowth, IsRefuted, IsReleased, IsRelinked, nothing, partner, watched_at};
 
+use crate::codes::Code;
+use crate::flat::FlatClauses;
 use crate::pairs::{Pairs, bring_row};
 use crate::sorting::sort_chain;
-use crate::trail::{Trail, code_of};
+use crate::trail::Trail;
 use crate::visits::{Visit, look_at};
-use clauses::{Clause, Lit};
 use std::alloc::{AllocError, Global};
 use std::marker::Model;
 
@@ -25,7 +26,7 @@ pub(crate) const NOTHING: usize = usize::MAX;
 pub(crate) struct Watches {
     variables: usize,
     /// The literal that each entry watches.
-    watched: Vec<Lit>,
+    watched: Vec<Code>,
     /// The entry behind each entry in its chain.
     next: Vec<usize>,
     /// The first entry of the chain of each literal, by its number. Of two chains more the first is spare, and the second has
@@ -77,12 +78,12 @@ impl Watches {
     }
 
     /// Appends an entry.
-    fn watch(&mut self, literal: Lit)
+    fn watch(&mut self, literal: Code)
         requires variable { IsBelow self.old.variables literal }
         requires room { length self.old.watched < self.old.room }
         ensures { self.new ≡ record self.old { watched = self.old.watched ++ literal ∷ [] } }
     {
-        let slot = code_of(literal);
+        let slot = literal.slot();
         let entry = self.next.len();
         self.next.push_reserved(self.heads[slot]);
         self.watched.push_reserved(literal);
@@ -90,7 +91,7 @@ impl Watches {
     }
 
     /// Watches two literals of one clause more.
-    pub fn attach(&mut self, one: Lit, other: Lit)
+    pub fn attach(&mut self, one: Code, other: Code)
         requires one { IsBelow self.old.variables one }
         requires other { IsBelow self.old.variables other }
         requires room { length self.old.watched + 2 ≤ self.old.room }
@@ -101,7 +102,7 @@ impl Watches {
     }
 
     /// Sets the clauses of two literals apart, where none is yet.
-    pub fn set_apart(&mut self, clauses: &[Clause]) -> Result<(), AllocError>
+    pub fn set_apart(&mut self, clauses: &FlatClauses) -> Result<(), AllocError>
         requires inside { AreInside clauses.now self.old.watched }
         requires plain { self.old.pairs.others ≡ [] }
         requires few { self.old.variables ≤ 1000000 }
@@ -146,7 +147,7 @@ impl Watches {
 
     /// Looks at the clauses that watch the literal, which is false now, and brings in what they force. False where one is
     /// refuted.
-    pub fn spread(&mut self, clauses: &[Clause], literal: Lit, trail: &mut Trail) -> bool
+    pub fn spread(&mut self, clauses: &FlatClauses, literal: Code, trail: &mut Trail) -> bool
         requires inside { AreInside clauses.now self.old.watched }
         requires paired { ArePaired clauses.now self.old.pairs }
         requires below { All (All (IsBelow self.old.variables)) clauses.now }
@@ -164,14 +165,14 @@ impl Watches {
         if self.watched.is_empty() {
             return true;
         }
-        if !bring_row(self.pairs.row(code_of(literal)), trail) {
+        if !bring_row(self.pairs.row(literal.slot()), trail) {
             return false;
         }
         self.walk(clauses, literal, trail)
     }
 
     /// Goes along the chain of the literal, which is false now, and brings in what its clauses force. False where one is refuted.
-    fn walk(&mut self, clauses: &[Clause], literal: Lit, trail: &mut Trail) -> bool
+    fn walk(&mut self, clauses: &FlatClauses, literal: Code, trail: &mut Trail) -> bool
         requires inside { AreInside clauses.now self.old.watched }
         requires below { All (All (IsBelow self.old.variables)) clauses.now }
         requires variables { trail.old.variables ≡ self.old.variables }
@@ -186,7 +187,7 @@ impl Watches {
         ensures seen { IsTrue result → (entry : ℕ) → entry < length self.new.watched → watched_at self.new.watched entry ≡ literal → Contains trail.new.literals (watched_at self.new.watched (partner entry)) }
         ensures refuted { IsFalse result → Any (IsRefuted trail.new.literals) clauses.now }
     {
-        let from = code_of(literal);
+        let from = literal.slot();
         let mut last = NOTHING;
         let mut entry = self.heads[from];
         while entry != NOTHING {
@@ -194,7 +195,7 @@ impl Watches {
             match step(clauses, &mut self.watched, entry, literal, trail) {
                 Visit::Stays => last = entry,
                 Visit::Moves(found) => {
-                    let to = code_of(found);
+                    let to = found.slot();
                     relink(&mut self.heads, &mut self.next, from, last, entry, to);
                 }
                 Visit::Refuted => return false,
@@ -215,10 +216,10 @@ pub(crate) fn partner(entry: usize) -> usize
 
 /// Looks at the clause of the entry, which watches the literal, and watches the one to which it moves.
 fn step(
-    clauses: &[Clause],
-    watched: &mut [Lit],
+    clauses: &FlatClauses,
+    watched: &mut [Code],
     entry: usize,
-    literal: Lit,
+    literal: Code,
     trail: &mut Trail,
 ) -> Visit
     requires entry { entry < length watched.old }
@@ -230,7 +231,7 @@ fn step(
     ensures { IsStep entry (slice_index_or clauses.now (entry / 2) []) (watched_at watched.old (partner entry)) watched.old watched.new trail.old trail.new result }
 {
     let other = watched[partner(entry)];
-    let visit = look_at(clauses[entry / 2].as_slice(), literal, other, trail);
+    let visit = look_at(clauses.get(entry / 2), literal, other, trail);
     if let Visit::Moves(found) = visit {
         watched[entry] = found;
     }
@@ -278,11 +279,11 @@ pub(crate) fn shift(heads: &mut [usize], next: &mut [usize], from: usize, to: us
 }
 
 /// Ends the chains of these literals at once.
-fn release(heads: &mut [usize], watched: &[Lit])
+fn release(heads: &mut [usize], watched: &[Code])
     requires { (k : ℕ) → k < length watched.now → code_of (watched_at watched.now k) < length heads.old }
     ensures { IsReleased heads.old watched.now heads.new }
 {
     for literal in watched {
-        heads[code_of(*literal)] = NOTHING;
+        heads[literal.slot()] = NOTHING;
     }
 }

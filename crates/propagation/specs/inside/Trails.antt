@@ -20,8 +20,9 @@ IsOneSigned literals = (literal : Lit) → Contains literals literal → ¬ Cont
 abbrev pub code_of : Lit → ℕ
 code_of literal = 2 * literal.var + (if literal.positive then 1 else 0)
 
--- by its number: whether a literal of these variables is there
+-- by its number: whether a literal of these variables is there; they are few enough for a number of four bytes
 pub record AreValues (variables : ℕ) (literals : List Lit) (values : List Bool) : Type 0 where
+  pub few : variables ≤ 1000000
   pub sized : length values ≡ 2 * variables
   pub valued : (literal : Lit) → literal.var < variables → slice_index_or values (code_of literal) false ≡ has literals literal
 

@@ -1,6 +1,6 @@
 use Rattle.std.proofs.Common.{◌≡◌, ◌∙◌, refl, sym, ap, subst, [], ◌++◌, length, arith}
 use Rattle.std.specs.Prelude.{All}
-use Rattle.clauses.specs.Problem.{ClauseProblem, IsBelow}
+use Rattle.clauses.specs.Problem.{IsBelow}
 use Rattle.propagation.specs.inside.Building.{AreAllWatched}
 use Rattle.propagation.specs.inside.Levels.{AreParts, HasPropagated}
 use Rattle.propagation.specs.inside.Pairing.{ArePaired}
@@ -15,7 +15,7 @@ returns-then-not-branch c = (dead-from c.args.problem.now.clauses (subst (AreAll
 pub set_apart-requires-clause-inside : goal.set_apart-requires-clause-inside
 set_apart-requires-clause-inside c =
     let are = subst (AreAllWatched c.args.problem.now c.watch_all.new.own c.watch_all.new.trail) c.if-not-branch.false c.in_ok-watch_all.ensures in
-    subst (λ cs. AreInside cs c.watch_all.new.own.watched) (sym (c.as_slice.ensures ∙ ap (λ (p : ClauseProblem). p.clauses) c.problem.view_is)) are.inside
+    subst (λ cs. AreInside cs c.watch_all.new.own.watched) (sym c.clauses.ensures.clauses) are.inside
 
 pub propagate-fits-requires : goal.propagate-fits-requires
 propagate-fits-requires c =
@@ -23,13 +23,13 @@ propagate-fits-requires c =
     let size = ap length c.requires.more_empty in
     let own : Watching = c.set_apart.new.self in
     let same : own.watched ≡ c.watch_all.new.own.watched = c.in_ok-set_apart.ensures.watched in
-    let clauses = c.as_slice.ensures ∙ ap (λ (p : ClauseProblem). p.clauses) c.problem.view_is in
+    let clauses = c.clauses.ensures.clauses in
     record {
       parts = record {
         trail_of = are.trail_of;
         own_of = c.in_ok-set_apart.ensures.variables ∙ are.own_of;
         more_of = c.requires.more_of;
-        clauses_below = subst (λ (p : ClauseProblem). All (All (IsBelow p.variables)) p.clauses) c.problem.view_is c.problem.invariant.clauses_below;
+        clauses_below = c.clauses.ensures.lawful.clauses_below;
         learned_below = subst (All (All (IsBelow c.args.problem.now.variables))) (sym c.requires.learned_empty) (λ k d l. absurd (omega arith));
         own_inside = subst (AreInside c.args.problem.now.clauses) (sym same) are.inside;
         more_inside = subst (λ cs. AreInside cs c.args.more.now.watched) (sym c.requires.learned_empty) (size, (λ e i. absurd (omega arith)));

@@ -2,5 +2,5 @@ use Rattle.std.proofs.Common.{take}
 use Rattle.propagation.specs.inside.Building.{AreWatched}
 use Rattle.propagation.proofs.building.watch_all.Given as goal
 
-abbrev pub invariant-loop-clause : goal.invariant-loop-clause
-invariant-loop-clause l = AreWatched l.fn.problem (take l.clause-index l.clause-items) l.own l.trail
+abbrev pub invariant-loop-number : goal.invariant-loop-number
+invariant-loop-number l = AreWatched l.fn.problem (take l.number l.fn.problem.clauses) l.own l.trail

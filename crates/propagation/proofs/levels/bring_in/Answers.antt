@@ -20,7 +20,7 @@ propagate-fits-requires c =
     let top = c.requires.top in
     let next = c.requires.next in
     let place : c.len.result ≡ length marks = (let l = c.len.ensures in omega arith) in
-    let taken : IsTakenIn trail (get_or assumed (length marks) (negative_of 0)) c.take_in.new.self = subst (λ k. IsTakenIn trail (get_or assumed k (negative_of 0)) c.take_in.new.self) place c.take_in.ensures in
+    let taken : IsTakenIn trail (get_or assumed (length marks) (negative_of 0)) c.take_in.new.self = subst (λ k. IsTakenIn trail (get_or assumed k (negative_of 0)) c.take_in.new.self) place (subst (λ l. IsTakenIn trail l c.take_in.new.self) c.of-literal.ensures c.take_in.ensures) in
     let covered = covered-taken problem learned assumed trail c.args.own.now c.args.more.now marks base is top next c.take_in.new.self taken in
     record {
       parts = record {
@@ -62,7 +62,7 @@ returns-then-is_false c =
       top =
           subst (IsClashing problem learned assumed) (sym marked)
           (false-clashes problem learned assumed trail c.args.own.now c.args.more.now marks base is top next
-          (subst (λ k. has trail.literals (negation (get_or assumed k (negative_of 0))) ≡ true) place (sym c.is_false.ensures ∙ c.if-is_false.true)));
+          (subst (λ k. has trail.literals (negation (get_or assumed k (negative_of 0))) ≡ true) place (subst (λ (l : Lit). has trail.literals (negation l) ≡ true) c.of-literal.ensures (sym c.is_false.ensures ∙ c.if-is_false.true))));
       room = c.push_reserved.ensures.capacity;
     }
 
@@ -78,7 +78,7 @@ returns c =
     let top = c.requires.top in
     let next = c.requires.next in
     let place : c.len.result ≡ length marks = (let l = c.len.ensures in omega arith) in
-    let taken : IsTakenIn trail (get_or assumed (length marks) (negative_of 0)) c.take_in.new.self = subst (λ k. IsTakenIn trail (get_or assumed k (negative_of 0)) c.take_in.new.self) place c.take_in.ensures in
+    let taken : IsTakenIn trail (get_or assumed (length marks) (negative_of 0)) c.take_in.new.self = subst (λ k. IsTakenIn trail (get_or assumed k (negative_of 0)) c.take_in.new.self) place (subst (λ l. IsTakenIn trail l c.take_in.new.self) c.of-literal.ensures c.take_in.ensures) in
     let covered = covered-taken problem learned assumed trail c.args.own.now c.args.more.now marks base is top next c.take_in.new.self taken in
     let marked : c.push_reserved.new.self.items ≡ marks ++ length trail.literals ∷ [] = c.push_reserved.ensures.items ∙ ap (λ n. marks ++ n ∷ []) c.len-start.ensures.value in
     let grows = taken-grows problem learned assumed trail c.args.own.now c.args.more.now marks base is top next c.take_in.new.self taken in

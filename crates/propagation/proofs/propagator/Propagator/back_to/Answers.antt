@@ -25,14 +25,15 @@ invariant_of-self c =
     let le : length c.self.inside.marks.items ≤ count = (let t = c.if-count-len.true in let l = c.len.ensures in omega arith) in
     record {
       problem = c.self.invariant.problem;
-      assumed_below = subst (All (IsBelow c.self.inside.problem.now.variables)) (sym kept) (all-taken c.self.inside.problem.now.variables count assumed c.self.invariant.assumed_below);
+      assumed_below = subst (All (IsBelow c.self.inside.problem.variables)) (sym kept) (all-taken c.self.inside.problem.variables count assumed c.self.invariant.assumed_below);
       learned_below = c.self.invariant.learned_below;
+      in_row = c.self.invariant.in_row;
       few = (let size = ap length kept ∙ length-take-le count assumed within in let f = c.self.invariant.few in omega arith);
-      reserved = subst (λ n. c.self.inside.problem.now.variables + 4096 ≤ n) (sym c.truncate.ensures.capacity) c.self.invariant.reserved;
+      reserved = subst (λ n. c.self.inside.problem.variables + 4096 ≤ n) (sym c.truncate.ensures.capacity) c.self.invariant.reserved;
       marks_reserved = c.self.invariant.marks_reserved;
       standing =
-          subst (λ a. HasState c.self.inside.problem.now c.self.inside.learned a c.self.inside.trail c.self.inside.watches c.self.inside.learned_watches c.self.inside.marks.items c.self.inside.base c.self.inside.state) (sym kept)
-          (fewer-above c.self.inside.problem.now c.self.inside.learned c.self.inside.assumed.items c.self.inside.trail c.self.inside.watches c.self.inside.learned_watches c.self.inside.marks.items c.self.inside.base c.self.inside.state c.self.invariant.standing count le within);
+          subst (λ a. HasState c.self.inside.problem c.self.inside.learned a c.self.inside.trail c.self.inside.watches c.self.inside.learned_watches c.self.inside.marks.items c.self.inside.base c.self.inside.state) (sym kept)
+          (fewer-above c.self.inside.problem c.self.inside.learned c.self.inside.assumed.items c.self.inside.trail c.self.inside.watches c.self.inside.learned_watches c.self.inside.marks.items c.self.inside.base c.self.inside.state c.self.invariant.standing count le within);
     }
 
 pub invariant_of-self-2 : goal.invariant_of-self-2
@@ -48,14 +49,15 @@ invariant_of-self-2 c =
     c.cut.ensures ∙ ap (λ n. record c.self.inside.trail { literals = take n c.self.inside.trail.literals }) (c.index.ensures ∙ get_or_default marks count c.index.result.now 0 inside) in
     record {
       problem = c.self.invariant.problem;
-      assumed_below = subst (All (IsBelow c.self.inside.problem.now.variables)) (sym kept) (all-taken c.self.inside.problem.now.variables count assumed c.self.invariant.assumed_below);
+      assumed_below = subst (All (IsBelow c.self.inside.problem.variables)) (sym kept) (all-taken c.self.inside.problem.variables count assumed c.self.invariant.assumed_below);
       learned_below = c.self.invariant.learned_below;
+      in_row = c.self.invariant.in_row;
       few = (let size = ap length kept ∙ length-take-le count assumed within in let f = c.self.invariant.few in omega arith);
-      reserved = subst (λ n. c.self.inside.problem.now.variables + 4096 ≤ n) (sym c.truncate-3.ensures.capacity) c.self.invariant.reserved;
-      marks_reserved = subst (λ n. c.self.inside.problem.now.variables + 4096 ≤ n) (sym c.truncate-2.ensures.capacity) c.self.invariant.marks_reserved;
+      reserved = subst (λ n. c.self.inside.problem.variables + 4096 ≤ n) (sym c.truncate-3.ensures.capacity) c.self.invariant.reserved;
+      marks_reserved = subst (λ n. c.self.inside.problem.variables + 4096 ≤ n) (sym c.truncate-2.ensures.capacity) c.self.invariant.marks_reserved;
       standing =
-          subst (λ a. HasState c.self.inside.problem.now c.self.inside.learned a c.cut.new.self c.self.inside.watches c.self.inside.learned_watches c.truncate-2.new.self.items c.self.inside.base state.Rests) (sym kept)
-          (subst (λ ms. HasState c.self.inside.problem.now c.self.inside.learned (take count assumed) c.cut.new.self c.self.inside.watches c.self.inside.learned_watches ms c.self.inside.base state.Rests) (sym marked)
-          (subst (λ (t : Trailing). HasState c.self.inside.problem.now c.self.inside.learned (take count assumed) t c.self.inside.watches c.self.inside.learned_watches (take count marks) c.self.inside.base state.Rests) (sym cut)
-          (fewer-below c.self.inside.problem.now c.self.inside.learned c.self.inside.assumed.items c.self.inside.trail c.self.inside.watches c.self.inside.learned_watches c.self.inside.marks.items c.self.inside.base c.self.inside.state c.self.invariant.standing count inside within)));
+          subst (λ a. HasState c.self.inside.problem c.self.inside.learned a c.cut.new.self c.self.inside.watches c.self.inside.learned_watches c.truncate-2.new.self.items c.self.inside.base state.Rests) (sym kept)
+          (subst (λ ms. HasState c.self.inside.problem c.self.inside.learned (take count assumed) c.cut.new.self c.self.inside.watches c.self.inside.learned_watches ms c.self.inside.base state.Rests) (sym marked)
+          (subst (λ (t : Trailing). HasState c.self.inside.problem c.self.inside.learned (take count assumed) t c.self.inside.watches c.self.inside.learned_watches (take count marks) c.self.inside.base state.Rests) (sym cut)
+          (fewer-below c.self.inside.problem c.self.inside.learned c.self.inside.assumed.items c.self.inside.trail c.self.inside.watches c.self.inside.learned_watches c.self.inside.marks.items c.self.inside.base c.self.inside.state c.self.invariant.standing count inside within)));
     }

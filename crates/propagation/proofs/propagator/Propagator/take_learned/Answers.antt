@@ -14,16 +14,17 @@ invariant_of-self c =
     let assumed : c.clear.new.self.items ≡ [] = c.clear.ensures.items in
     let marks : c.clear-2.new.self.items ≡ [] = c.clear-2.ensures.items in
     let dead : c.self.inside.state ≡ state.Dead = c.is_dead.ensures.0 c.if-is_dead.true in
-    let standing : HasState c.self.inside.problem.now [] [] c.self.inside.trail c.self.inside.watches c.clear-3.new.self [] c.self.inside.base c.self.inside.state =
-    subst (HasState c.self.inside.problem.now [] [] c.self.inside.trail c.self.inside.watches c.clear-3.new.self [] c.self.inside.base) (sym dead)
-    (forgotten-dead c.self.inside.problem.now c.self.inside.learned c.self.inside.assumed.items c.self.inside.trail c.self.inside.watches c.self.inside.learned_watches c.self.inside.marks.items c.self.inside.base (subst (HasState c.self.inside.problem.now c.self.inside.learned c.self.inside.assumed.items c.self.inside.trail c.self.inside.watches c.self.inside.learned_watches c.self.inside.marks.items c.self.inside.base) dead c.self.invariant.standing) c.self.inside.trail c.clear-3.new.self) in
+    let standing : HasState c.self.inside.problem [] [] c.self.inside.trail c.self.inside.watches c.clear-3.new.self [] c.self.inside.base c.self.inside.state =
+    subst (HasState c.self.inside.problem [] [] c.self.inside.trail c.self.inside.watches c.clear-3.new.self [] c.self.inside.base) (sym dead)
+    (forgotten-dead c.self.inside.problem c.self.inside.learned c.self.inside.assumed.items c.self.inside.trail c.self.inside.watches c.self.inside.learned_watches c.self.inside.marks.items c.self.inside.base (subst (HasState c.self.inside.problem c.self.inside.learned c.self.inside.assumed.items c.self.inside.trail c.self.inside.watches c.self.inside.learned_watches c.self.inside.marks.items c.self.inside.base) dead c.self.invariant.standing) c.self.inside.trail c.clear-3.new.self) in
     record {
       problem = c.self.invariant.problem;
-      assumed_below = subst (All (IsBelow c.self.inside.problem.now.variables)) (sym assumed) (λ k d l. absurd (omega arith));
-      learned_below = subst (All (All (IsBelow c.self.inside.problem.now.variables))) (sym none) (λ k d l. absurd (omega arith));
+      assumed_below = subst (All (IsBelow c.self.inside.problem.variables)) (sym assumed) (λ k d l. absurd (omega arith));
+      learned_below = subst (All (All (IsBelow c.self.inside.problem.variables))) (sym none) (λ k d l. absurd (omega arith));
+      in_row = c.clear-4.ensures ∙ sym none;
       few = (let size = ap length assumed in omega arith);
-      reserved = subst (λ n. c.self.inside.problem.now.variables + 4096 ≤ n) (sym c.clear.ensures.capacity) c.self.invariant.reserved;
-      marks_reserved = subst (λ n. c.self.inside.problem.now.variables + 4096 ≤ n) (sym c.clear-2.ensures.capacity) c.self.invariant.marks_reserved;
+      reserved = subst (λ n. c.self.inside.problem.variables + 4096 ≤ n) (sym c.clear.ensures.capacity) c.self.invariant.reserved;
+      marks_reserved = subst (λ n. c.self.inside.problem.variables + 4096 ≤ n) (sym c.clear-2.ensures.capacity) c.self.invariant.marks_reserved;
       standing = rw (none, assumed, marks) standing;
     }
 
@@ -32,15 +33,16 @@ invariant_of-self-2 c =
     let none : c.replace-learned.new.dest ≡ [] = c.replace-learned.ensures.after ∙ c.new-none.ensures in
     let assumed : c.clear.new.self.items ≡ [] = c.clear.ensures.items in
     let marks : c.clear-2.new.self.items ≡ [] = c.clear-2.ensures.items in
-    let standing : HasState c.self.inside.problem.now [] [] c.cut.new.self c.self.inside.watches c.clear-3.new.self [] c.self.inside.base state.Rests =
-    subst (λ (t : Trailing). HasState c.self.inside.problem.now [] [] t c.self.inside.watches c.clear-3.new.self [] c.self.inside.base state.Rests) (sym c.cut.ensures)
-    (forgotten c.self.inside.problem.now c.self.inside.learned c.self.inside.assumed.items c.self.inside.trail c.self.inside.watches c.self.inside.learned_watches c.self.inside.marks.items c.self.inside.base c.self.inside.state c.self.invariant.standing (λ e. both_ways c.is_dead.result c.if-is_dead.false (c.is_dead.ensures.1 e)) c.self.invariant.problem.clauses_below c.clear-3.new.self c.clear-3.ensures.variables c.clear-3.ensures.watched c.clear-3.ensures.plain) in
+    let standing : HasState c.self.inside.problem [] [] c.cut.new.self c.self.inside.watches c.clear-3.new.self [] c.self.inside.base state.Rests =
+    subst (λ (t : Trailing). HasState c.self.inside.problem [] [] t c.self.inside.watches c.clear-3.new.self [] c.self.inside.base state.Rests) (sym c.cut.ensures)
+    (forgotten c.self.inside.problem c.self.inside.learned c.self.inside.assumed.items c.self.inside.trail c.self.inside.watches c.self.inside.learned_watches c.self.inside.marks.items c.self.inside.base c.self.inside.state c.self.invariant.standing (λ e. both_ways c.is_dead.result c.if-is_dead.false (c.is_dead.ensures.1 e)) c.self.invariant.problem.clauses_below c.clear-3.new.self c.clear-3.ensures.variables c.clear-3.ensures.watched c.clear-3.ensures.plain) in
     record {
       problem = c.self.invariant.problem;
-      assumed_below = subst (All (IsBelow c.self.inside.problem.now.variables)) (sym assumed) (λ k d l. absurd (omega arith));
-      learned_below = subst (All (All (IsBelow c.self.inside.problem.now.variables))) (sym none) (λ k d l. absurd (omega arith));
+      assumed_below = subst (All (IsBelow c.self.inside.problem.variables)) (sym assumed) (λ k d l. absurd (omega arith));
+      learned_below = subst (All (All (IsBelow c.self.inside.problem.variables))) (sym none) (λ k d l. absurd (omega arith));
+      in_row = c.clear-4.ensures ∙ sym none;
       few = (let size = ap length assumed in omega arith);
-      reserved = subst (λ n. c.self.inside.problem.now.variables + 4096 ≤ n) (sym c.clear.ensures.capacity) c.self.invariant.reserved;
-      marks_reserved = subst (λ n. c.self.inside.problem.now.variables + 4096 ≤ n) (sym c.clear-2.ensures.capacity) c.self.invariant.marks_reserved;
+      reserved = subst (λ n. c.self.inside.problem.variables + 4096 ≤ n) (sym c.clear.ensures.capacity) c.self.invariant.reserved;
+      marks_reserved = subst (λ n. c.self.inside.problem.variables + 4096 ≤ n) (sym c.clear-2.ensures.capacity) c.self.invariant.marks_reserved;
       standing = rw (none, assumed, marks) standing;
     }

@@ -2,7 +2,7 @@ use Rattle.std.proofs.Common.{◌<◌, ◌∙◌, sym, ap, subst, false, length,
 use Rattle.std.proofs.lemmas.List.{get_or_default}
 use Rattle.clauses.specs.Clause.{has}
 use Rattle.propagation.specs.inside.Trails.{Trailing, code_of}
-use Rattle.propagation.proofs.Codes.{code-below}
+use Rattle.propagation.proofs.CodeLaws.{code-below}
 use Rattle.propagation.proofs.trail.Trail.is_true.Goals as goal
 
 pub returns-clause-answer : goal.returns-clause-answer
@@ -12,7 +12,7 @@ returns-clause-answer c =
     let low = code-below (length inside.places.items) c.args.literal below in
     let size = c.self.invariant.1.sized in
     c.index.ensures
-    ∙ ap (λ k. get_or inside.values.items k c.index.result.now) c.code_of.ensures
+    ∙ ap (λ k. get_or inside.values.items k c.index.result.now) c.slot.ensures
     ∙ get_or_default inside.values.items (code_of c.args.literal) c.index.result.now false (omega arith)
     ∙ c.self.invariant.1.valued c.args.literal below
     ∙ ap (λ (t : Trailing). has t.literals c.args.literal) c.self.view_is

@@ -9,7 +9,7 @@ use Rattle.propagation.specs.inside.Trails.{Trailing, code_of}
 use Rattle.propagation.specs.inside.Visits.{IsStep}
 use Rattle.propagation.specs.inside.Watching.{AreInside, AreKept, IsRelinked, Watching, nothing, partner, watched_at}
 use Rattle.propagation.proofs.WalkLaws.{IsWalk, walk-start, walk-stays, walk-moves, walk-refuted, walk-seen, entry-next, entry-watched, literal-there, other-there, last-apart, stays-smaller, moves-smaller, to-apart, growth-within}
-use Rattle.propagation.proofs.Codes.{code-below}
+use Rattle.propagation.proofs.CodeLaws.{code-below}
 use Rattle.propagation.proofs.WatchLaws.{whole}
 use Rattle.propagation.proofs.watches.Watches.walk.Goals as goal
 
@@ -21,7 +21,7 @@ loop-entry-init c =
     let low = code-below variables c.args.literal literal_in in
     let size = c.self.invariant.slots in
     let entry : c.index-entry.result.now ≡ get_or heads (code_of c.args.literal) 0 =
-    c.index-entry.ensures ∙ ap (λ k. get_or heads k c.index-entry.result.now) c.code_of-from.ensures ∙ get_or_default heads (code_of c.args.literal) c.index-entry.result.now 0 (omega arith) in
+    c.index-entry.ensures ∙ ap (λ k. get_or heads k c.index-entry.result.now) c.slot-from.ensures ∙ get_or_default heads (code_of c.args.literal) c.index-entry.result.now 0 (omega arith) in
     record {
       same = refl;
       pairs = refl;
@@ -131,7 +131,7 @@ relink-requires-clause-apart c e =
     let step : IsStep c.loop-entry.entry (get_or clauses (c.loop-entry.entry / 2) []) (watched_at watched (partner c.loop-entry.entry)) watched c.step.new.watched trail c.step.new.trail (visit.Moves c.in-Moves.found) =
     subst (λ (w : List Lit). IsStep c.loop-entry.entry (get_or clauses (c.loop-entry.entry / 2) []) (watched_at w (partner c.loop-entry.entry)) w c.step.new.watched trail c.step.new.trail (visit.Moves c.in-Moves.found)) c.deref_mut.ensures.value c.in-Moves.ensures in
     let whole_watched = whole at.watched.len c.step.new.watched watched (omega arith) (c.step.auto.watched ∙ ap length c.deref_mut.ensures.value) in
-    to-apart clauses literal variables pairs watched0 trail0 literal_in c.requires.is_false heads next watched trail c.loop-entry.last c.loop-entry.entry is few c.loop-entry-test.true below c.in-Moves.found c.step.new.watched c.step.new.trail step (sym c.code_of-from.ensures ∙ e ∙ c.code_of-to.ensures)
+    to-apart clauses literal variables pairs watched0 trail0 literal_in c.requires.is_false heads next watched trail c.loop-entry.last c.loop-entry.entry is few c.loop-entry-test.true below c.in-Moves.found c.step.new.watched c.step.new.trail step (sym c.slot-from.ensures ∙ e ∙ c.slot-to.ensures)
 
 pub relink-requires-clause-last : goal.relink-requires-clause-last
 relink-requires-clause-last c =
@@ -286,10 +286,10 @@ loop-entry-smaller c =
     let whole_watched = whole at.watched.len c.step.new.watched watched (omega arith) (c.step.auto.watched ∙ ap length c.deref_mut.ensures.value) in
     let behind : c.index-behind.result.now ≡ get_or next c.loop-entry.entry 0 = c.index-behind.ensures ∙ get_or_default next c.loop-entry.entry c.index-behind.result.now 0 (entry-next clauses literal variables pairs watched0 trail0 literal_in c.requires.is_false heads next watched trail c.loop-entry.last c.loop-entry.entry is few c.loop-entry-test.true) in
     let relinked : IsRelinked heads next (code_of literal) c.loop-entry.last c.loop-entry.entry (code_of c.in-Moves.found) c.relink.new.heads c.relink.new.next =
-    subst (λ (k : ℕ). IsRelinked heads next (code_of literal) c.loop-entry.last c.loop-entry.entry k c.relink.new.heads c.relink.new.next) c.code_of-to.ensures
-    (subst (λ (k : ℕ). IsRelinked heads next k c.loop-entry.last c.loop-entry.entry c.code_of-to.result c.relink.new.heads c.relink.new.next) c.code_of-from.ensures
-    (subst (λ (ns : List ℕ). IsRelinked heads ns c.code_of-from.result c.loop-entry.last c.loop-entry.entry c.code_of-to.result c.relink.new.heads c.relink.new.next) c.deref_mut-in-Moves-2.ensures.value
-    (subst (λ (hs : List ℕ). IsRelinked hs c.deref_mut-in-Moves-2.result.now c.code_of-from.result c.loop-entry.last c.loop-entry.entry c.code_of-to.result c.relink.new.heads c.relink.new.next) c.deref_mut-in-Moves.ensures.value c.relink.ensures))) in
+    subst (λ (k : ℕ). IsRelinked heads next (code_of literal) c.loop-entry.last c.loop-entry.entry k c.relink.new.heads c.relink.new.next) c.slot-to.ensures
+    (subst (λ (k : ℕ). IsRelinked heads next k c.loop-entry.last c.loop-entry.entry c.slot-to.result c.relink.new.heads c.relink.new.next) c.slot-from.ensures
+    (subst (λ (ns : List ℕ). IsRelinked heads ns c.slot-from.result c.loop-entry.last c.loop-entry.entry c.slot-to.result c.relink.new.heads c.relink.new.next) c.deref_mut-in-Moves-2.ensures.value
+    (subst (λ (hs : List ℕ). IsRelinked hs c.deref_mut-in-Moves-2.result.now c.slot-from.result c.loop-entry.last c.loop-entry.entry c.slot-to.result c.relink.new.heads c.relink.new.next) c.deref_mut-in-Moves.ensures.value c.relink.ensures))) in
     let whole_heads = whole at.heads.len c.relink.new.heads heads (omega arith) (c.relink.auto.heads ∙ ap length c.deref_mut-in-Moves.ensures.value) in
     let whole_next = whole at.next.len c.relink.new.next next (omega arith) (c.relink.auto.next ∙ ap length c.deref_mut-in-Moves-2.ensures.value) in
     rw (behind, whole_next) (moves-smaller clauses literal variables pairs watched0 trail0 literal_in c.requires.is_false heads next watched trail c.loop-entry.last c.loop-entry.entry is few c.loop-entry-test.true below c.in-Moves.found c.step.new.watched c.step.new.trail step c.relink.new.heads c.relink.new.next relinked)
@@ -316,10 +316,10 @@ loop-entry-preserved c =
     let whole_watched = whole at.watched.len c.step.new.watched watched (omega arith) (c.step.auto.watched ∙ ap length c.deref_mut.ensures.value) in
     let behind : c.index-behind.result.now ≡ get_or next c.loop-entry.entry 0 = c.index-behind.ensures ∙ get_or_default next c.loop-entry.entry c.index-behind.result.now 0 (entry-next clauses literal variables pairs watched0 trail0 literal_in c.requires.is_false heads next watched trail c.loop-entry.last c.loop-entry.entry is few c.loop-entry-test.true) in
     let relinked : IsRelinked heads next (code_of literal) c.loop-entry.last c.loop-entry.entry (code_of c.in-Moves.found) c.relink.new.heads c.relink.new.next =
-    subst (λ (k : ℕ). IsRelinked heads next (code_of literal) c.loop-entry.last c.loop-entry.entry k c.relink.new.heads c.relink.new.next) c.code_of-to.ensures
-    (subst (λ (k : ℕ). IsRelinked heads next k c.loop-entry.last c.loop-entry.entry c.code_of-to.result c.relink.new.heads c.relink.new.next) c.code_of-from.ensures
-    (subst (λ (ns : List ℕ). IsRelinked heads ns c.code_of-from.result c.loop-entry.last c.loop-entry.entry c.code_of-to.result c.relink.new.heads c.relink.new.next) c.deref_mut-in-Moves-2.ensures.value
-    (subst (λ (hs : List ℕ). IsRelinked hs c.deref_mut-in-Moves-2.result.now c.code_of-from.result c.loop-entry.last c.loop-entry.entry c.code_of-to.result c.relink.new.heads c.relink.new.next) c.deref_mut-in-Moves.ensures.value c.relink.ensures))) in
+    subst (λ (k : ℕ). IsRelinked heads next (code_of literal) c.loop-entry.last c.loop-entry.entry k c.relink.new.heads c.relink.new.next) c.slot-to.ensures
+    (subst (λ (k : ℕ). IsRelinked heads next k c.loop-entry.last c.loop-entry.entry c.slot-to.result c.relink.new.heads c.relink.new.next) c.slot-from.ensures
+    (subst (λ (ns : List ℕ). IsRelinked heads ns c.slot-from.result c.loop-entry.last c.loop-entry.entry c.slot-to.result c.relink.new.heads c.relink.new.next) c.deref_mut-in-Moves-2.ensures.value
+    (subst (λ (hs : List ℕ). IsRelinked hs c.deref_mut-in-Moves-2.result.now c.slot-from.result c.loop-entry.last c.loop-entry.entry c.slot-to.result c.relink.new.heads c.relink.new.next) c.deref_mut-in-Moves.ensures.value c.relink.ensures))) in
     let whole_heads = whole at.heads.len c.relink.new.heads heads (omega arith) (c.relink.auto.heads ∙ ap length c.deref_mut-in-Moves.ensures.value) in
     let whole_next = whole at.next.len c.relink.new.next next (omega arith) (c.relink.auto.next ∙ ap length c.deref_mut-in-Moves-2.ensures.value) in
     let new = walk-moves clauses literal variables pairs watched0 trail0 literal_in c.requires.is_false heads next watched trail c.loop-entry.last c.loop-entry.entry is few c.loop-entry-test.true below c.in-Moves.found c.step.new.watched c.step.new.trail step c.relink.new.heads c.relink.new.next relinked in

@@ -1,6 +1,8 @@
 -- Numbers of literals.
-use Rattle.std.proofs.Common.{◌≡◌, ◌∙◌, refl, ap, ℕ, ◌+◌, ◌*◌, ◌<◌, ◌≤◌, Bool, true, false, cond, arith}
+use Rattle.std.proofs.Common.{◌≡◌, ◌∙◌, refl, ap, ℕ, ◌+◌, ◌*◌, ◌<◌, ◌≤◌, List, length, get_or, Bool, true, false, cond, arith}
 use Rattle.clauses.specs.declared.literal.Lit.{Lit}
+use Rattle.std.proofs.lemmas.List.{get_or_default}
+use Rattle.clauses.specs.Clause.{negative_of}
 use Rattle.propagation.specs.inside.Trails.{code_of}
 
 same_number : (v w : ℕ) (p q : Bool) → 2 * v + cond p 1 0 ≡ 2 * w + cond q 1 0 → (v ≡ w) × (p ≡ q)
@@ -20,3 +22,7 @@ sign_small false = omega arith
 
 pub code-below : (n : ℕ) (l : Lit) → l.var < n → code_of l < 2 * n
 code-below n l below = let small = sign_small l.positive in omega arith
+
+-- an item that a loop takes, by the default that the lemmas use
+pub item-there : (items : List Lit) (i : ℕ) (item : Lit) → item ≡ get_or items i item → i < length items → item ≡ get_or items i (negative_of 0)
+item-there items i item is within = is ∙ get_or_default items i item (negative_of 0) within
